@@ -1,0 +1,4 @@
+pub mod Bools
+pub mod Compare
+pub mod Span
+pub mod Sets

@@ -1,0 +1,30 @@
+-- Sets of numbers (claims, workers), as tests.
+--   S ⊆ W         inclusion
+--   nothing       the empty set
+--   count W n     how many numbers below n are in W
+--   iterate f n   f applied n times, from the empty set on
+use Prim.Native.Nat.{ℕ, zero, suc, _+_}
+use mathlib.Core.Bool.{Bool, true, false}
+use lib.Dec.{T}
+
+abbrev pub Claims : Type 0
+Claims = ℕ → Bool
+
+infix 4 _⊆_
+abbrev pub _⊆_ : Claims → Claims → Type 0
+S ⊆ W = (c : ℕ) → T (S c) → T (W c)
+
+abbrev pub nothing : Claims
+nothing c = false
+
+unfoldable pub one : Bool → ℕ
+one true = 1
+one false = 0
+
+unfoldable pub count : Claims → ℕ → ℕ
+count W zero = 0
+count W (suc n) = count W n + one (W n)
+
+unfoldable pub iterate : (Claims → Claims) → ℕ → Claims
+iterate f zero = nothing
+iterate f (suc n) = f (iterate f n)

@@ -1,0 +1,8 @@
+pub mod Bytes
+pub mod Job
+pub mod Format
+pub mod Claims
+pub mod Check
+pub mod Checks
+pub mod Accepted
+pub mod Encoding
