@@ -1,1 +1,4 @@
 pub mod Literals
+pub mod Rows
+pub mod Parts
+pub mod Accepted

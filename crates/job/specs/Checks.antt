@@ -5,7 +5,7 @@ use mathlib.Core.List.{List}
 use mathlib.Core.Bool.{Bool, _||_}
 use lib.ListN.{length}
 use Rattle.base.specs.Compare.{under, over, notBelow, differs}
-use Rattle.job.specs.Check.{_⨾_, row, scan}
+use Rattle.job.specs.Rows.{_⨾_, row, scan}
 use Rattle.job.specs.Job.{claimOf, mostClaims, mostRules, mostLiterals, mostWorkers, mostQuestions}
 use Rattle.job.specs.Format.{total, claims, rules, literals, workers, questions, rulesOffset, literalsOffset, questionsOffset, ruleByte, literalByte, questionByte, headAt, bodyLengthAt, headBefore, bodyStart, literalAt, questionAt}
 use Rattle.job.specs.declared.Check.{Check}

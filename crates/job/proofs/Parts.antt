@@ -1,0 +1,32 @@
+-- Heads and bodies, one rule after the other. Assumes nothing.
+use Prim.Native.Nat.{ℕ, zero, suc, _+_, _<_, _≤_}
+use mathlib.Core.Path.{_≡_, refl}
+use mathlib.Core.List.{List}
+use mathlib.Core.Logic.{⊎-elim}
+use native.Mathlib.Omega.{arith}
+use native.Mathlib.Nat.{eq-or-lt-of-le, le-of-suc-le-suc}
+use native.Mathlib.Numerals.{add-one}
+use Rattle.job.specs.Format.{headAt, headBefore, bodyStart, bodyLengthAt}
+
+-- one rule more, at the code's i + 1
+pub headBefore-next : (s : List ℕ) (i : ℕ) → headBefore s (i + 1) ≡ headAt s i
+unfolding headBefore
+headBefore-next s i = rw add-one
+
+pub bodyStart-next : (s : List ℕ) (i : ℕ) → bodyStart s (i + 1) ≡ bodyStart s i + bodyLengthAt s i
+unfolding bodyStart
+bodyStart-next s i = rw add-one
+
+-- the bodies up to rule i's are within those of m rules, for i below m
+pub body-within : (s : List ℕ) (i m : ℕ) → i < m → bodyStart s i + bodyLengthAt s i ≤ bodyStart s m
+unfolding bodyStart
+body-within s i zero l = absurd (omega arith)
+body-within s i (suc m) l =
+    ⊎-elim (λ e. rw e (omega arith)) (λ h. omega (arith, body-within s i m h)) (eq-or-lt-of-le (le-of-suc-le-suc l))
+
+-- heads that never fall rise from any rule to any later one
+pub rises : (s : List ℕ) (m : ℕ) → ((k : ℕ) → k < m → headBefore s k ≤ headAt s k) → (j i : ℕ) → j ≤ i → i < m → headAt s j ≤ headAt s i
+unfolding headBefore
+rises s m up j zero l h = let e : j ≡ 0 = omega arith in rw e (omega arith)
+rises s m up j (suc i) l h =
+    ⊎-elim (λ e. rw e (omega arith)) (λ b. omega (arith, rises s m up j i (le-of-suc-le-suc b) (omega arith), up (suc i) h)) (eq-or-lt-of-le l)
