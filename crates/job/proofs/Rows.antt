@@ -1,6 +1,6 @@
 -- Laws of checks in order. Assumes nothing.
 use Prim.Native.Nat.{ℕ, zero, suc, _<_}
-use mathlib.Core.Path.{_≡_, refl, sym, _∙_}
+use mathlib.Core.Path.{_≡_, refl, sym, _∙_, ap}
 use mathlib.Core.Bool.{Bool, true, false}
 use native.Mathlib.Omega.{arith}
 use Rattle.job.specs.Rows.{_⨾_, row, scan}
@@ -59,3 +59,7 @@ unfolding scan
 scan-all bad zero number place e k l = absurd (omega arith)
 scan-all bad (suc n) number place e zero l = row-no _ _ _ (both _ _ e .0)
 scan-all bad (suc n) number place e (suc k) l = scan-all (λ j. bad (suc j)) n number (λ j. place (suc j)) (both _ _ e .1) k (omega arith)
+
+-- a refusal whose place is worked out in another way
+pub placed : {r : Check} {n p q : ℕ} → r ≡ Refused n p → p ≡ q → r ≡ Refused n q
+placed {r} {n} {p} {q} e h = e ∙ ap (Refused n) h
