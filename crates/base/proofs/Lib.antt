@@ -1,4 +1,5 @@
 pub mod Bools
 pub mod Compare
 pub mod Span
+pub mod Members
 pub mod Sets

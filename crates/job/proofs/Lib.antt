@@ -2,3 +2,10 @@ pub mod Literals
 pub mod Rows
 pub mod Parts
 pub mod Accepted
+pub mod Halves
+pub mod Encoded
+pub mod Fields
+pub mod Decoded
+pub mod Written
+pub mod Valid
+pub mod Encoding
