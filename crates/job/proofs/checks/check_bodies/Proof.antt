@@ -1,21 +1,16 @@
+-- `job::checks::check_bodies` meets its contract. Assumes nothing.
+use Prim.Native.Nat.{ℕ, _-_, _≤_, _<_}
+use mathlib.Core.Bool.{false}
+use mathlib.Core.Path.{_≡_, refl, _∙_, ap}
+use native.Mathlib.Omega.{arith}
+use borrow.Author.Count.{below-none, below-more}
+use Rattle.base.proofs.Compare.{under-yes, under-no, over-yes, over-no}
 use Rattle.job.proofs.Parts.{bodyStart-next}
-use Rattle.job.proofs.Rows.{scan-none, scan-at, pass, stop, join, go, halt, placed}
+use Rattle.job.proofs.Rows.{scan-none, scan-at, pass, stop, go, halt, placed}
 use Rattle.job.specs.Checks.{longBody, checkBodies}
 use Rattle.job.specs.Format.{rules, literals, bodyStart}
-use Rattle.base.proofs.Compare.{under-yes, under-no, over-yes, over-no}
-use borrow.Author.Count.{below-none, below-more}
-use native.Mathlib.Omega.{arith}
-use mathlib.Core.Bool.{false}
-use mathlib.Core.Path.{_≡_, refl, sym, _∙_, ap}
-use Prim.Native.Nat.{ℕ, _-_, _≤_, _<_}
 use Rattle.job.proofs.checks.check_bodies.Statement.{statement}
 use Rattle.job.proofs.checks.check_bodies.Tie as tie
-use Rattle.job.proofs.checks.check_bodies.Reads as reads
-use Rattle.job.proofs.checks.check_bodies.Lts as lts
-use Rattle.job.proofs.checks.refused.Reads as refused-reads
-use Rattle.job.proofs.format.body_length_at.Reads as body-length-at-reads
-use Rattle.job.proofs.format.literal_count.Reads as literal-count-reads
-use Rattle.job.proofs.format.rule_count.Reads as rule-count-reads
 
 abbrev Inv-loop : tie.InvT-loop
 Inv-loop job rules′ literals′ passed₀ i₀ passed i = (i ≤ rules job) × (passed ≡ bodyStart job i) × (passed ≤ literals job) × ((k : ℕ) → k < i → longBody job k ≡ false)

@@ -1,27 +1,19 @@
+-- `job::checks::check_header` meets its contract. Assumes nothing.
+use mathlib.Core.Path.{_≡_, refl, sym, _∙_}
+use borrow.Author.Needs.{needs}
 use Rattle.job.proofs.Accepted.{length-least}
 use Rattle.job.proofs.Rows.{go, halt}
 use Rattle.job.specs.declared.Check.the-variants.{Accepted}
-use Rattle.job.specs.Checks.{checkLength, checkTotal, checkCounts, checkHeader}
-use mathlib.Core.Path.{_≡_, refl, sym, _∙_}
-use borrow.Author.Needs.{needs}
+use Rattle.job.specs.Checks.{checkLength, checkHeader}
 use Rattle.job.proofs.checks.check_header.Statement.{statement}
 use Rattle.job.proofs.checks.check_header.Tie as tie
-use Rattle.job.proofs.checks.check_header.Reads as reads
-use Rattle.job.proofs.checks.check_header.Lts as lts
-use Rattle.job.proofs.checks.check_counts.Reads as check-counts-reads
-use Rattle.job.proofs.checks.check_length.Reads as check-length-reads
-use Rattle.job.proofs.checks.check_offsets.Reads as check-offsets-reads
-use Rattle.job.proofs.checks.check_total.Reads as check-total-reads
 
--- src/checks.rt:188:9
 check-length-requires : tie.Need-check-length-requires
 check-length-requires c κs = search needs
 
--- src/checks.rt:190:9
 enum-told : tie.Need-enum-told
 enum-told c = search needs
 
--- src/checks.rt:190:9
 returns : tie.Need-returns
 unfolding checkHeader
 returns c = halt _ _ (c .enum-told .given .1) (c .before .before .check-length .ensures)
@@ -29,7 +21,6 @@ returns c = halt _ _ (c .enum-told .given .1) (c .before .before .check-length .
 enum-told-2 : tie.Need-enum-told-2
 enum-told-2 c = search needs
 
--- src/checks.rt:192:9
 -- the length was accepted, in the terms of the table
 length-ok : (c : tie.After-enum-told2) → Accepted ≡ checkLength (c .before .before .before .before .args .job .now)
 length-ok c = sym (c .enum-told2 .given .1) ∙ c .before .before .check-length .ensures
@@ -37,11 +28,9 @@ length-ok c = sym (c .enum-told2 .given .1) ∙ c .before .before .check-length 
 check-total-requires : tie.Need-check-total-requires
 check-total-requires c κs = length-least _ (length-ok c)
 
--- src/checks.rt:194:9
 enum-told-3 : tie.Need-enum-told-3
 enum-told-3 c = search needs
 
--- src/checks.rt:194:9
 returns-2 : tie.Need-returns-2
 unfolding checkHeader
 returns-2 c =
@@ -50,15 +39,12 @@ returns-2 c =
 enum-told-4 : tie.Need-enum-told-4
 enum-told-4 c = search needs
 
--- src/checks.rt:196:9
 check-counts-requires : tie.Need-check-counts-requires
 check-counts-requires c κs = length-least _ (length-ok (c .before .before .before))
 
--- src/checks.rt:198:9
 enum-told-5 : tie.Need-enum-told-5
 enum-told-5 c = search needs
 
--- src/checks.rt:198:9
 returns-3 : tie.Need-returns-3
 unfolding checkHeader
 returns-3 c =
@@ -68,11 +54,9 @@ returns-3 c =
 enum-told-6 : tie.Need-enum-told-6
 enum-told-6 c = search needs
 
--- src/checks.rt:200:5
 check-offsets-requires : tie.Need-check-offsets-requires
 check-offsets-requires c κs = length-least _ (length-ok (c .before .before .before .before .before .before))
 
--- src/checks.rt:185:1
 returns-4 : tie.Need-returns-4
 unfolding checkHeader
 returns-4 c =

@@ -1,22 +1,17 @@
+-- `job::checks::check_heads` meets its contract. Assumes nothing.
+use Prim.Native.Nat.{ℕ, _-_, _≤_, _<_}
+use mathlib.Core.Bool.{false}
+use mathlib.Core.Path.{_≡_, refl, sym, _∙_}
+use native.Mathlib.Omega.{arith}
+use borrow.Author.Count.{below-none, below-more}
+use Rattle.base.proofs.Compare.{under-yes, under-no, notBelow-yes, notBelow-no}
+use Rattle.base.proofs.Bools.{or-no, or-first, or-second}
 use Rattle.job.proofs.Parts.{headBefore-next}
 use Rattle.job.proofs.Rows.{scan-none, scan-at}
 use Rattle.job.specs.Checks.{badHead, checkHeads}
 use Rattle.job.specs.Format.{rules, headBefore}
-use Rattle.base.proofs.Compare.{under-yes, under-no, notBelow-yes, notBelow-no}
-use Rattle.base.proofs.Bools.{or-no, or-first, or-second}
-use borrow.Author.Count.{below-none, below-more}
-use native.Mathlib.Omega.{arith}
-use mathlib.Core.Bool.{false}
-use mathlib.Core.Path.{_≡_, refl, sym, _∙_}
-use Prim.Native.Nat.{ℕ, _-_, _≤_, _<_}
 use Rattle.job.proofs.checks.check_heads.Statement.{statement}
 use Rattle.job.proofs.checks.check_heads.Tie as tie
-use Rattle.job.proofs.checks.check_heads.Reads as reads
-use Rattle.job.proofs.checks.check_heads.Lts as lts
-use Rattle.job.proofs.checks.refused.Reads as refused-reads
-use Rattle.job.proofs.format.claim_count.Reads as claim-count-reads
-use Rattle.job.proofs.format.head_at.Reads as head-at-reads
-use Rattle.job.proofs.format.rule_count.Reads as rule-count-reads
 
 abbrev Inv-loop : tie.InvT-loop
 Inv-loop job claims′ rules′ before₀ i₀ before i = (i ≤ rules job) × (before ≡ headBefore job i) × ((k : ℕ) → k < i → badHead job k ≡ false)

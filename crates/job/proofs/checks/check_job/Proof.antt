@@ -1,24 +1,18 @@
+-- `job::checks::check_job` meets its contract. Assumes nothing.
+use mathlib.Core.Path.{sym, _∙_}
+use borrow.Author.Needs.{needs}
 use Rattle.job.proofs.Accepted.{header-sized}
 use Rattle.job.proofs.Rows.{go, halt}
 use Rattle.job.specs.Checks.{checkJob}
-use mathlib.Core.Path.{_≡_, refl, sym, _∙_}
-use borrow.Author.Needs.{needs}
 use Rattle.job.proofs.checks.check_job.Statement.{statement}
 use Rattle.job.proofs.checks.check_job.Tie as tie
-use Rattle.job.proofs.checks.check_job.Reads as reads
-use Rattle.job.proofs.checks.check_job.Lts as lts
-use Rattle.job.proofs.checks.check_header.Reads as check-header-reads
-use Rattle.job.proofs.checks.check_parts.Reads as check-parts-reads
 
--- src/checks.rt:230:9
 check-header-requires : tie.Need-check-header-requires
 check-header-requires c κs = search needs
 
--- src/checks.rt:232:9
 enum-told : tie.Need-enum-told
 enum-told c = search needs
 
--- src/checks.rt:232:9
 returns : tie.Need-returns
 unfolding checkJob
 returns c = halt _ _ (c .enum-told .given .1) (c .before .before .check-header .ensures)
@@ -26,11 +20,9 @@ returns c = halt _ _ (c .enum-told .given .1) (c .before .before .check-header .
 enum-told-2 : tie.Need-enum-told-2
 enum-told-2 c = search needs
 
--- src/checks.rt:234:5
 check-parts-requires : tie.Need-check-parts-requires
 check-parts-requires c κs = header-sized _ (sym (c .enum-told2 .given .1) ∙ c .before .before .check-header .ensures)
 
--- src/checks.rt:227:1
 returns-2 : tie.Need-returns-2
 unfolding checkJob
 returns-2 c = go _ _ (c .before .enum-told2 .given .1) (c .before .before .before .check-header .ensures) (c .check-parts .ensures)

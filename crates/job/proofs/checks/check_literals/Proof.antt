@@ -1,27 +1,19 @@
+-- `job::checks::check_literals` meets its contract. Assumes nothing.
+use Prim.Native.Nat.{ℕ, _-_, _≤_, _<_}
+use mathlib.Core.List.{List}
+use mathlib.Core.Logic.{⊎-elim}
+use mathlib.Core.Bool.{true, false}
+use mathlib.Core.Path.{_≡_, refl, _∙_, ap}
+use native.Mathlib.Omega.{arith}
+use borrow.Author.Count.{below-none, below-more}
+use Rattle.base.proofs.Compare.{notBelow-yes, notBelow-no}
 use Rattle.job.proofs.Parts.{bodyStart-next, body-within, claim-at}
 use Rattle.job.proofs.Rows.{scan-none, scan-at, placed}
 use Rattle.job.specs.Checks.{badLiteral, checkLiterals}
 use Rattle.job.specs.Format.{rules, literals, bodyStart, literalAt}
 use Rattle.job.specs.Job.{claimOf}
-use Rattle.base.proofs.Compare.{notBelow-yes, notBelow-no}
-use borrow.Author.Count.{below-none, below-more}
-use native.Mathlib.Omega.{arith}
-use mathlib.Core.List.{List}
-use mathlib.Core.Logic.{⊎-elim}
-use mathlib.Core.Bool.{true, false}
-use mathlib.Core.Path.{_≡_, refl, sym, _∙_, ap}
-use Prim.Native.Nat.{ℕ, _-_, _≤_, _<_}
 use Rattle.job.proofs.checks.check_literals.Statement.{statement}
 use Rattle.job.proofs.checks.check_literals.Tie as tie
-use Rattle.job.proofs.checks.check_literals.Reads as reads
-use Rattle.job.proofs.checks.check_literals.Lts as lts
-use Rattle.job.proofs.checks.refused.Reads as refused-reads
-use Rattle.job.proofs.format.body_length_at.Reads as body-length-at-reads
-use Rattle.job.proofs.format.claim_count.Reads as claim-count-reads
-use Rattle.job.proofs.format.claim_of.Reads as claim-of-reads
-use Rattle.job.proofs.format.literal_at.Reads as literal-at-reads
-use Rattle.job.proofs.format.literal_count.Reads as literal-count-reads
-use Rattle.job.proofs.format.rule_count.Reads as rule-count-reads
 
 abbrev Inv-loop : tie.InvT-loop
 Inv-loop job claims′ rules′ k₀ i end k = (k ≤ end) × (end ≤ literals job) × ((j : ℕ) → j < k → badLiteral job j ≡ false)

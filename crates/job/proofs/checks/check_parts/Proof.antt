@@ -1,26 +1,18 @@
+-- `job::checks::check_parts` meets its contract. Assumes nothing.
+use mathlib.Core.Path.{sym, _∙_}
+use borrow.Author.Needs.{needs}
 use Rattle.job.proofs.Accepted.{bodies-sum}
 use Rattle.job.proofs.Rows.{go, halt}
 use Rattle.job.specs.Checks.{checkParts}
-use mathlib.Core.Path.{_≡_, refl, sym, _∙_}
-use borrow.Author.Needs.{needs}
 use Rattle.job.proofs.checks.check_parts.Statement.{statement}
 use Rattle.job.proofs.checks.check_parts.Tie as tie
-use Rattle.job.proofs.checks.check_parts.Reads as reads
-use Rattle.job.proofs.checks.check_parts.Lts as lts
-use Rattle.job.proofs.checks.check_bodies.Reads as check-bodies-reads
-use Rattle.job.proofs.checks.check_heads.Reads as check-heads-reads
-use Rattle.job.proofs.checks.check_literals.Reads as check-literals-reads
-use Rattle.job.proofs.checks.check_questions.Reads as check-questions-reads
 
--- src/checks.rt:211:9
 check-heads-requires : tie.Need-check-heads-requires
 check-heads-requires c κs = search needs
 
--- src/checks.rt:213:9
 enum-told : tie.Need-enum-told
 enum-told c = search needs
 
--- src/checks.rt:213:9
 returns : tie.Need-returns
 unfolding checkParts
 returns c = halt _ _ (c .enum-told .given .1) (c .before .before .check-heads .ensures)
@@ -28,15 +20,12 @@ returns c = halt _ _ (c .enum-told .given .1) (c .before .before .check-heads .e
 enum-told-2 : tie.Need-enum-told-2
 enum-told-2 c = search needs
 
--- src/checks.rt:215:9
 check-bodies-requires : tie.Need-check-bodies-requires
 check-bodies-requires c κs = search needs
 
--- src/checks.rt:217:9
 enum-told-3 : tie.Need-enum-told-3
 enum-told-3 c = search needs
 
--- src/checks.rt:217:9
 returns-2 : tie.Need-returns-2
 unfolding checkParts
 returns-2 c =
@@ -45,15 +34,12 @@ returns-2 c =
 enum-told-4 : tie.Need-enum-told-4
 enum-told-4 c = search needs
 
--- src/checks.rt:219:9
 check-literals-requires : tie.Need-check-literals-requires
 check-literals-requires c κs = (c .before .before .before .before .before .before .before .pre, bodies-sum _ (sym (c .enum-told4 .given .1) ∙ c .before .before .check-bodies .ensures))
 
--- src/checks.rt:221:9
 enum-told-5 : tie.Need-enum-told-5
 enum-told-5 c = search needs
 
--- src/checks.rt:221:9
 returns-3 : tie.Need-returns-3
 unfolding checkParts
 returns-3 c =
@@ -63,11 +49,9 @@ returns-3 c =
 enum-told-6 : tie.Need-enum-told-6
 enum-told-6 c = search needs
 
--- src/checks.rt:223:5
 check-questions-requires : tie.Need-check-questions-requires
 check-questions-requires c κs = search needs
 
--- src/checks.rt:207:1
 returns-4 : tie.Need-returns-4
 unfolding checkParts
 returns-4 c =

@@ -1,25 +1,17 @@
+-- `job::checks::check_questions` meets its contract. Assumes nothing.
+use Prim.Native.Nat.{ℕ, _-_, _≤_, _<_}
+use mathlib.Core.Bool.{false}
+use mathlib.Core.Path.{_≡_, _∙_}
+use native.Mathlib.Omega.{arith}
+use borrow.Author.Count.{below-none, below-more}
+use Rattle.base.proofs.Compare.{notBelow-yes, notBelow-no}
+use Rattle.base.proofs.Bools.{or-no, or-first, or-second}
 use Rattle.job.proofs.Rows.{scan-none, scan-at, placed}
 use Rattle.job.proofs.Parts.{Asked, asked-at}
 use Rattle.job.specs.Checks.{badQuestion, checkQuestions}
 use Rattle.job.specs.Format.{questions}
-use Rattle.base.proofs.Compare.{notBelow-yes, notBelow-no}
-use Rattle.base.proofs.Bools.{or-no, or-first, or-second}
-use borrow.Author.Count.{below-none, below-more}
-use native.Mathlib.Omega.{arith}
-use mathlib.Core.Bool.{false}
-use mathlib.Core.Path.{_≡_, refl, sym, _∙_, ap}
-use Prim.Native.Nat.{ℕ, _-_, _≤_, _<_}
 use Rattle.job.proofs.checks.check_questions.Statement.{statement}
 use Rattle.job.proofs.checks.check_questions.Tie as tie
-use Rattle.job.proofs.checks.check_questions.Reads as reads
-use Rattle.job.proofs.checks.check_questions.Lts as lts
-use Rattle.job.proofs.checks.refused.Reads as refused-reads
-use Rattle.job.proofs.format.claim_count.Reads as claim-count-reads
-use Rattle.job.proofs.format.literal_count.Reads as literal-count-reads
-use Rattle.job.proofs.format.question_at.Reads as question-at-reads
-use Rattle.job.proofs.format.question_count.Reads as question-count-reads
-use Rattle.job.proofs.format.rule_count.Reads as rule-count-reads
-use Rattle.job.proofs.format.worker_count.Reads as worker-count-reads
 
 abbrev Inv-loop : tie.InvT-loop
 Inv-loop job claims′ rules′ literals′ workers′ questions′ start q₀ q = (q ≤ questions job) × ((k : ℕ) → k < q → badQuestion job k ≡ false)

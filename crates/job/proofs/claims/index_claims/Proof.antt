@@ -1,0 +1,121 @@
+-- `job::claims::index_claims` meets its contract. Assumes nothing.
+use Prim.Native.Nat.{ℕ, _+_, _-_, _≤_, _<_}
+use mathlib.Core.Path.{_≡_, refl, sym, _∙_}
+use native.Mathlib.Omega.{arith}
+use borrow.Author.Count.{below-none, below-more}
+use lib.ListN.{length, getD, length-set}
+use Rattle.job.proofs.Contiguous.{starts-here, rule-there, rule-below, rule-past, index-more}
+use Rattle.job.proofs.Parts.{bodyStart-next, body-within}
+use Rattle.job.specs.Claims.{claimStart}
+use Rattle.job.specs.Format.{claims, rules, literals, headAt, bodyStart}
+use Rattle.job.proofs.claims.index_claims.Statement.{statement}
+use Rattle.job.proofs.claims.index_claims.Tie as tie
+
+abbrev Inv-loop : tie.InvT-loop
+Inv-loop job claims′ rules′ index₀ i₀ claim₀ passed₀ index i claim passed = (length index ≡ 4097) × (i ≤ rules job) × (claim ≤ claims job + 1) × (passed ≡ bodyStart job i) × (passed ≤ literals job) × ((j : ℕ) → j < i → headAt job j < claim) × ((d : ℕ) → d < claim → getD index d 0 ≡ claimStart job d)
+
+abbrev μ-loop : tie.MeasureT-loop
+μ-loop job claims′ rules′ index₀ i₀ claim₀ passed₀ index i claim passed = (rules job - i) + (claims job + 1 - claim)
+
+claim-count-requires : tie.Need-claim-count-requires Inv-loop μ-loop
+claim-count-requires c κs = omega arith
+
+rule-count-requires : tie.Need-rule-count-requires Inv-loop μ-loop
+rule-count-requires c κs = omega arith
+
+no-starts-requires : tie.Need-no-starts-requires Inv-loop μ-loop
+no-starts-requires c κs = omega arith
+
+loop-holds : tie.Need-loop-holds Inv-loop μ-loop
+unfolding bodyStart
+loop-holds c = (c .no-starts .ensures, omega arith, omega arith, refl, omega arith, below-none _, below-none _)
+
+head-below-requires : tie.Need-head-below-requires Inv-loop μ-loop
+head-below-requires c κs = omega arith
+
+-- the rule that the test found
+there : (c : tie.Then1 Inv-loop μ-loop) → c .before .before .before .loop .i < rules (c .before .before .before .before .before .before .before .before .args .job .now)
+there c = rule-there _ (c .before .before .before .loop .claim) _ (c .before .before .before .before .before .rule-count .ensures .value) (c .before .head-below .ensures) (c .if1 .taken)
+
+body-length-at-requires : tie.Need-body-length-at-requires Inv-loop μ-loop
+body-length-at-requires c κs = omega (arith, there c)
+
+add-passed : tie.Need-add-passed Inv-loop μ-loop
+add-passed c = omega arith
+
+add-i : tie.Need-add-i Inv-loop μ-loop
+add-i c = omega arith
+
+loop-less : tie.Need-loop-less Inv-loop μ-loop
+loop-less c = omega (arith, there (c .before))
+
+loop-again : tie.Need-loop-again Inv-loop μ-loop
+loop-again c =
+    let s = c .before .before .before .before .before .before .before .before .before .args .job .now in
+    let l = c .before .before .before .before .loop in
+    let h = there (c .before) in
+    let next = bodyStart-next s (l .i) in (
+      l .inv .0,
+      omega arith,
+      l .inv .2,
+      omega arith,
+      omega (arith, body-within s (l .i) (rules s) h, c .before .before .before .before .before .before .before .before .before .pre .bodies),
+      below-more _ _ (l .inv .5) (rule-below s (l .claim) (l .i) (c .before .before .before .before .before .before .rule-count .ensures .value) (c .before .before .head-below .ensures) (c .before .if1 .taken)),
+      l .inv .6,
+    )
+
+cast-index : tie.Need-cast-index Inv-loop μ-loop
+cast-index c = omega arith
+
+mul-index : tie.Need-mul-index Inv-loop μ-loop
+mul-index c = omega arith
+
+array-write-index : tie.Need-array-write-index Inv-loop μ-loop
+array-write-index c = omega arith
+
+add-claim : tie.Need-add-claim Inv-loop μ-loop
+add-claim c = omega arith
+
+loop-less-2 : tie.Need-loop-less-2 Inv-loop μ-loop
+loop-less-2 c = omega arith
+
+loop-again-2 : tie.Need-loop-again-2 Inv-loop μ-loop
+loop-again-2 c =
+    let s = c .before .before .before .before .before .before .before .before .args .job .now in
+    let l = c .before .before .before .loop in
+    let past = rule-past s (l .claim) (l .i) (c .before .before .before .before .before .rule-count .ensures .value) (c .before .head-below .ensures) (c .if1 .left) in (
+      simp length-set (l .inv .0),
+      l .inv .1,
+      omega arith,
+      l .inv .3,
+      l .inv .4,
+      λ j b. omega (arith, l .inv .5 j b),
+      index-more s (l .index) (l .claim) (l .passed) (omega arith) (l .inv .3 ∙ sym (starts-here s (rules s) (c .before .before .before .before .before .before .before .before .pre .rise) (l .claim) (l .i) (l .inv .1) (l .inv .5) past)) (l .inv .6),
+    )
+
+returns : tie.Need-returns Inv-loop μ-loop
+returns c = λ d b. c .before .loop .inv .6 d (omega arith)
+
+pub index-claims-spec : {M : Type 1} → statement M
+index-claims-spec =
+    tie.close
+    (tie.spec
+    Inv-loop
+    μ-loop
+    claim-count-requires
+    rule-count-requires
+    no-starts-requires
+    loop-holds
+    head-below-requires
+    body-length-at-requires
+    add-passed
+    add-i
+    loop-less
+    loop-again
+    cast-index
+    mul-index
+    array-write-index
+    add-claim
+    loop-less-2
+    loop-again-2
+    returns)
