@@ -1,0 +1,162 @@
+//! Times plain evaluation on 50 made fields: the library, the oracle and
+//! SWI-Prolog, one after the other on the same job.  bench/run builds it.
+
+#[path = "../tests/compare/library.rs"]
+#[allow(dead_code)]
+mod library;
+mod prolog;
+mod worst;
+
+use std::time::{Duration, Instant};
+
+use oracle::checks::{part_input, Job};
+use oracle::jobs::generate;
+use oracle::model::{well_founded, Program};
+
+/// Kinds and the seeds of their fields.  The large ones are of all eight shapes.
+const FIELDS: [(&str, &[u64]); 11] = [
+    ("tiny", &[1, 2, 3]),
+    ("small", &[1, 2, 3]),
+    ("ring", &[1, 2, 3, 4, 5]),
+    ("negloop", &[1, 2, 3, 4, 5]),
+    ("chain", &[1, 2, 3, 4, 5]),
+    ("strat", &[1, 2, 3, 4, 5]),
+    ("random", &[1, 2, 3, 4, 5]),
+    ("cluster", &[1, 2, 3, 4, 5]),
+    ("tower", &[1, 2, 3, 4]),
+    ("large", &[0, 1, 2, 3, 10, 4, 5, 6]),
+    ("empty", &[1, 2]),
+];
+
+/// One evaluator is run again and again for so long, but at most so often.
+const LONG_ENOUGH: Duration = Duration::from_millis(300);
+const OFTEN_ENOUGH: usize = 501;
+
+/// Seconds that a call takes: the median of several.
+fn median_time(mut call: impl FnMut()) -> f64 {
+    let start = Instant::now();
+    let mut times = Vec::new();
+    while times.is_empty() || (times.len() < OFTEN_ENOUGH && start.elapsed() < LONG_ENOUGH) {
+        let before = Instant::now();
+        call();
+        times.push(before.elapsed().as_secs_f64());
+    }
+    median(times)
+}
+
+fn median(mut values: Vec<f64>) -> f64 {
+    values.sort_by(f64::total_cmp);
+    values[values.len() / 2]
+}
+
+/// The oracle's check and evaluation, with the library's way of answering.
+fn oracle_evaluate(bytes: &[u8], verdicts: &mut [u8]) -> usize {
+    let job = Job::check(bytes).expect("a made field is accepted");
+    for (byte, verdict) in verdicts.iter_mut().zip(well_founded(&Program::of_job(&job))) {
+        *byte = verdict as u8;
+    }
+    job.claims
+}
+
+/// One field's times in seconds.
+struct Row {
+    kind: &'static str,
+    seed: u64,
+    sizes: [usize; 3],
+    ours: f64,
+    oracle: f64,
+    prolog: Result<f64, &'static str>,
+}
+
+fn measure(kind: &'static str, seed: u64, bytes: &[u8]) -> Row {
+    let job = Job::check(bytes).expect("a made field is accepted");
+    let mut verdicts = [0; 4096];
+    let oracle = median_time(|| {
+        oracle_evaluate(bytes, &mut verdicts);
+    });
+    let expected = verdicts;
+    let ours = median_time(|| {
+        library::evaluate(bytes, &mut verdicts).expect("a made field is accepted");
+    });
+    assert!(verdicts[..job.claims] == expected[..job.claims], "{kind} {seed}: the verdicts differ");
+    let sizes = [job.claims, job.rules.len(), job.literals.len()];
+    Row { kind, seed, sizes, ours, oracle, prolog: prolog::seconds(&job) }
+}
+
+/// A ratio, with fewer places the larger it is.
+fn ratio(over: f64, under: f64) -> String {
+    let value = over / under;
+    format!("{value:.*}", if value < 10.0 { 2 } else { 0 })
+}
+
+fn show(row: &Row) {
+    let [claims, rules, literals] = row.sizes;
+    let (time, against) = match row.prolog {
+        Ok(seconds) => (format!("{:.1}", 1e3 * seconds), ratio(seconds, row.ours)),
+        Err(why) => (why.to_string(), "-".to_string()),
+    };
+    println!(
+        "| {:7} | {:4} | {claims:4} | {rules:4} | {literals:5} | {:9.4} | {:9.4} | {time:>9} | {:>11} | {against:>11} |",
+        row.kind,
+        row.seed,
+        1e3 * row.ours,
+        1e3 * row.oracle,
+        ratio(row.ours, row.oracle),
+    );
+}
+
+/// The medians and extremes of the ratios over all fields.
+fn show_summary(rows: &[Row]) {
+    let spread = |name: &str, mut ratios: Vec<f64>| {
+        ratios.sort_by(f64::total_cmp);
+        if let (Some(least), Some(most)) = (ratios.first(), ratios.last()) {
+            let middle = ratios[ratios.len() / 2];
+            println!("{name}: least {least:.2}, median {middle:.2}, most {most:.2} ({} fields)", ratios.len());
+        }
+    };
+    println!();
+    spread("ours / oracle", rows.iter().map(|row| row.ours / row.oracle).collect());
+    let decided = rows.iter().filter_map(|row| row.prolog.ok().map(|seconds| seconds / row.ours));
+    spread("SWI-Prolog / ours", decided.collect());
+    let sum = |time: fn(&Row) -> f64| rows.iter().map(time).sum::<f64>();
+    println!("all fields once: ours {:.2} s, oracle {:.2} s", sum(|row| row.ours), sum(|row| row.oracle));
+}
+
+/// The 50 made fields.
+fn measure_made() -> Vec<Row> {
+    let mut rows = Vec::new();
+    for (kind, seeds) in FIELDS {
+        for &seed in seeds {
+            let input = generate(kind, seed).expect("the kind is known");
+            let row = measure(kind, seed, part_input(&input).0);
+            show(&row);
+            rows.push(row);
+        }
+    }
+    rows
+}
+
+/// The slowest job at growing sizes, the number of claims in place of a seed.
+fn measure_worst() -> Vec<Row> {
+    let mut rows = Vec::new();
+    for claims in [256, 512, 1024, 2048, 4096] {
+        let row = measure("worst", claims as u64, &worst::worst_job(claims));
+        show(&row);
+        rows.push(row);
+    }
+    rows
+}
+
+const HEADING: &str = "\
+| kind    | seed |    A |    M |     L |   ours ms | oracle ms | Prolog ms | ours/oracle | Prolog/ours |
+|---------|-----:|-----:|-----:|------:|----------:|----------:|----------:|------------:|------------:|
+";
+
+fn main() {
+    print!("{HEADING}");
+    let rows = match std::env::args().nth(1).as_deref() {
+        Some("worst") => measure_worst(),
+        _ => measure_made(),
+    };
+    show_summary(&rows);
+}

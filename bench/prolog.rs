@@ -1,0 +1,46 @@
+//! SWI-Prolog's time for a job: the CPU seconds that its evaluation takes
+//! inside its process, as the program made for it prints them.
+
+use std::io::Read;
+use std::process::{Command, Stdio};
+use std::time::{Duration, Instant};
+
+use oracle::checks::Job;
+use oracle::prolog::prolog_program;
+
+/// A job that takes longer is given up.
+const LIMIT: Duration = Duration::from_secs(20);
+
+/// Below this its clock, of 0.1 ms, says nothing.
+const LEAST: f64 = 0.001;
+
+const PROGRAM: &str = "target/tests/bench.pl";
+
+/// The seconds, or why there are none.
+pub fn seconds(job: &Job) -> Result<f64, &'static str> {
+    std::fs::write(PROGRAM, prolog_program(job, false, &vec![None; job.claims])).map_err(|_| "no file")?;
+    let mut child = Command::new("swipl")
+        .args(["--stack-limit=8g", PROGRAM])
+        .stdin(Stdio::null())
+        .stdout(Stdio::null())
+        .stderr(Stdio::piped())
+        .spawn()
+        .map_err(|_| "no swipl")?;
+    let start = Instant::now();
+    while child.try_wait().map_err(|_| "failed")?.is_none() {
+        if start.elapsed() > LIMIT {
+            let _ = child.kill();
+            let _ = child.wait();
+            return Err("> 20 s");
+        }
+        std::thread::sleep(Duration::from_millis(2));
+    }
+    let mut text = String::new();
+    child.stderr.take().expect("it was piped").read_to_string(&mut text).map_err(|_| "failed")?;
+    let printed = text.lines().find_map(|line| line.strip_prefix("cpu "));
+    match printed.and_then(|number| number.parse().ok()) {
+        Some(seconds) if seconds < LEAST => Err("< 1"),
+        Some(seconds) => Ok(seconds),
+        None => Err("failed"),
+    }
+}

@@ -1,0 +1,28 @@
+-- A body, literal by literal, as a loop tests it. Assumes nothing.
+use Prim.Native.Nat.{ℕ, _+_, _-_, _<_}
+use mathlib.Core.Path.{_≡_, refl, sym, _∙_, ap}
+use mathlib.Core.Bool.{Bool, true, false, not}
+use Rattle.base.specs.Sets.{Claims}
+use Rattle.base.specs.Span.{span}
+use Rattle.base.proofs.Span.{span-one}
+use Rattle.job.specs.declared.Literal.{Literal}
+use Rattle.job.specs.declared.Literal.the-variants.{Plain, Negated}
+use Rattle.model.specs.Model.{holds, fires}
+
+-- a literal whose variant is known
+pub holds-plain : (S W : Claims) (l : Literal) (c : ℕ) (r : Bool) → l ≡ Plain c → r ≡ W c → r ≡ holds S W l
+holds-plain S W l c r e q = q ∙ ap (holds S W) (sym e)
+
+pub holds-negated : (S W : Claims) (l : Literal) (c : ℕ) (r : Bool) → l ≡ Negated c → r ≡ S c → not r ≡ holds S W l
+holds-negated S W l c r e q = ap not q ∙ ap (holds S W) (sym e)
+
+-- l is the literal that was read at k, and r whether it holds
+module _ (S W : Claims) (f : ℕ → Literal) (k n : ℕ) (some-left : 0 < n) (l : Literal) (r : Bool) (read : l ≡ f k) (tested : r ≡ holds S W l) where
+  known : holds S W (f k) ≡ r
+  known = sym (tested ∙ ap (holds S W) read)
+
+  pub fires-stop : r ≡ false → fires S W (span f k n) ≡ false
+  fires-stop e = rw (span-one f k n some-left, known, e)
+
+  pub fires-on : r ≡ true → fires S W (span f k n) ≡ fires S W (span f (k + 1) (n - 1))
+  fires-on e = rw (span-one f k n some-left, known, e)

@@ -1,0 +1,15 @@
+pub mod LeastSet
+pub mod Alternation
+pub mod Exchange
+pub mod Theorems
+pub mod Fields
+pub mod Exchanged
+pub mod Passes
+pub mod Partway
+pub mod Bytes
+pub mod Firing
+pub mod Known
+pub mod Rules
+pub mod Rounds
+pub mod Written
+pub mod Plain

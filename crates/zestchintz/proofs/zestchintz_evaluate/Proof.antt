@@ -1,0 +1,35 @@
+-- `zestchintz::zestchintz_evaluate` meets its contract. Assumes nothing.
+use Prim.Native.Nat.{_<_}
+use mathlib.Core.Path.{_∙_, ap, subst⁻¹}
+use native.Mathlib.Omega.{arith}
+use borrow.Author.Needs.{needs}
+use lib.ListN.{length}
+use Rattle.job.specs.Format.{claims}
+use Rattle.job.specs.declared.Check.{Check}
+use Rattle.model.specs.Output.{outputOf}
+use Rattle.zestchintz.proofs.Answers.{plain-answered}
+use Rattle.zestchintz.specs.Code.{codeOf, Answered}
+use Rattle.zestchintz.proofs.zestchintz_evaluate.Statement.{statement}
+use Rattle.zestchintz.proofs.zestchintz_evaluate.Tie as tie
+
+evaluate-requires : tie.Need-evaluate-requires
+evaluate-requires c κs = search needs
+
+code-of-requires : tie.Need-code-of-requires
+code-of-requires c κs =
+    let s = c .before .before .before .before .before .before .args .job .now in
+    let short : length s < 9223372036854775808 = omega arith in
+    subst⁻¹ (Answered s) (c .before .before .evaluate .ensures .check) (plain-answered s short _)
+
+same-length : tie.Need-same-length
+same-length c = search needs
+
+returns : tie.Need-returns
+returns c =
+    let e = c .before .before .before .evaluate .ensures in
+    let s = c .before .before .before .before .before .before .before .args .job .now in
+    (c .code-of .ensures ∙ ap (codeOf (claims s)) (e .check), e .output ∙ ap (λ (r : Check). outputOf r s (c .before .before .before .before .before .before .before .args .verdicts .now)) (e .check))
+
+pub zestchintz-evaluate-spec : {M : Type 1} → statement M
+zestchintz-evaluate-spec =
+    tie.close (tie.spec evaluate-requires code-of-requires same-length returns)

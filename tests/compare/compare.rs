@@ -1,0 +1,148 @@
+//! One job at a time: the library's codes and bytes beside the oracle's.
+
+use std::hint::black_box;
+
+use oracle::checks::{Job, Refusal};
+use oracle::model::{well_founded, Program};
+
+use crate::library;
+
+/// At most this many differences are printed.
+const PRINTED: usize = 20;
+
+/// Bytes around the lent output that nobody may change.
+const GUARD: usize = 64;
+
+/// What was compared so far.
+#[derive(Default)]
+pub struct Totals {
+    pub jobs: usize,
+    pub calls: usize,
+    pub accepted: usize,
+    pub refused: [usize; 14],
+    pub verdicts: [usize; 4],
+    pub differences: usize,
+}
+
+/// The code for an answer, by the layout that the header file gives.
+fn code_of(answer: &Result<usize, Refusal>) -> u64 {
+    match *answer {
+        Ok(claims) => claims as u64,
+        Err(Refusal { number: 1, place }) => (1 << 63) + place as u64,
+        Err(Refusal { number, place }) => (u64::from(number) << 32) + place as u64,
+    }
+}
+
+/// A byte that no verdict equals and that differs from its neighbours.
+fn filling(at: usize) -> u8 {
+    0x80 | (at * 37 % 128) as u8
+}
+
+/// Output lengths worth a call for a job of so many claims.
+fn interesting_lengths(claims: usize) -> Vec<usize> {
+    let mut lengths = vec![0, 1, claims / 2, claims.saturating_sub(1), claims, claims + 1, claims + 200];
+    lengths.sort_unstable();
+    lengths.dedup();
+    lengths
+}
+
+impl Totals {
+    /// Compares both calls on these bytes.  `name` says how to make them again.
+    pub fn compare(&mut self, name: &str, bytes: &[u8]) {
+        self.jobs += 1;
+        let kept = bytes.to_vec();
+        let job = Job::check(bytes);
+        let checked = job.as_ref().map(|job| job.claims).map_err(|&refusal| refusal);
+        self.count(&checked);
+        self.expect(name, "check", code_of(&checked), library::check_code(bytes));
+        let values: Vec<u8> = match &job {
+            Ok(job) => well_founded(&Program::of_job(job)).iter().map(|&verdict| verdict as u8).collect(),
+            Err(_) => Vec::new(),
+        };
+        for &value in &values {
+            self.verdicts[usize::from(value)] += 1;
+        }
+        let lengths = if job.is_ok() { interesting_lengths(values.len()) } else { vec![0, 50] };
+        for length in lengths {
+            self.compare_output(name, bytes, &checked, &values, length);
+        }
+        if *black_box(bytes) != kept[..] {
+            self.differ(name, "the job's bytes were changed");
+        }
+    }
+
+    /// One evaluation into `length` bytes between guards.
+    fn compare_output(
+        &mut self,
+        name: &str,
+        bytes: &[u8],
+        checked: &Result<usize, Refusal>,
+        values: &[u8],
+        length: usize,
+    ) {
+        let fits = length >= values.len();
+        let answer = match checked {
+            Ok(claims) if !fits => Err(Refusal { number: 13, place: *claims }),
+            other => *other,
+        };
+        let mut expected: Vec<u8> = (0..length + 2 * GUARD).map(filling).collect();
+        let mut lent = expected.clone();
+        if answer.is_ok() {
+            expected[GUARD..GUARD + values.len()].copy_from_slice(values);
+        }
+        let code = library::evaluate_code(bytes, &mut lent[GUARD..GUARD + length]);
+        let what = format!("evaluate into {length} bytes");
+        self.expect(name, &what, code_of(&answer), code);
+        let lent = black_box(lent);
+        if let Some(at) = (0..lent.len()).find(|&at| lent[at] != expected[at]) {
+            let place = at as i64 - GUARD as i64;
+            self.differ(name, &format!("{what}: byte {place} is {}, expected {}", lent[at], expected[at]));
+        }
+    }
+
+    pub fn expect(&mut self, name: &str, what: &str, expected: u64, code: u64) {
+        self.calls += 1;
+        if code != expected {
+            let (said, right) = (library::answer(code), library::answer(expected));
+            self.differ(name, &format!("{what}: {said:?} ({code:#x}), expected {right:?} ({expected:#x})"));
+        }
+    }
+
+    pub fn differ(&mut self, name: &str, what: &str) {
+        self.differences += 1;
+        if self.differences <= PRINTED {
+            println!("differs: {name}: {what}");
+        }
+    }
+
+    pub fn add(&mut self, other: &Totals) {
+        self.jobs += other.jobs;
+        self.calls += other.calls;
+        self.accepted += other.accepted;
+        self.differences += other.differences;
+        for (sum, count) in self.refused.iter_mut().zip(other.refused) {
+            *sum += count;
+        }
+        for (sum, count) in self.verdicts.iter_mut().zip(other.verdicts) {
+            *sum += count;
+        }
+    }
+
+    /// The last lines: what was met, and how many differ.
+    pub fn summary(&self) {
+        let rows: Vec<String> = (1..=8).map(|number| format!("{number}: {}", self.refused[number])).collect();
+        println!("refused by number {}", rows.join(", "));
+        println!("verdicts true {}, false {}, undefined {}", self.verdicts[1], self.verdicts[2], self.verdicts[3]);
+        if self.differences > 0 {
+            println!("a made job alone: compare made KIND SEED 1");
+        }
+        println!("{} jobs in {} calls compared, {} differences", self.jobs, self.calls, self.differences);
+    }
+
+    fn count(&mut self, checked: &Result<usize, Refusal>) {
+        match checked {
+            Ok(_) => self.accepted += 1,
+            Err(refusal) => self.refused[refusal.number as usize] += 1,
+        }
+    }
+}

@@ -1,0 +1,168 @@
+//! Compares the library's check and plain evaluation with the oracle's, call by
+//! call; exit status 1 if any differ.  `compare help` prints the commands.
+
+mod compare;
+mod faults;
+mod lengths;
+mod library;
+mod mapped;
+
+use std::io::{Read, Write};
+use std::process::exit;
+use std::time::Instant;
+
+use compare::Totals;
+use oracle::checks::{part_input, MAX_INPUT_BYTES};
+use oracle::edges::{edge_cases, Expected};
+use oracle::jobs::generate;
+
+const USAGE: &str = "\
+compare                          all that the gate runs
+compare made KINDS FROM COUNT    made jobs of these kinds (commas between, or `all`),
+                                 COUNT seeds each, the first of them FROM
+compare edges                    the edge cases
+compare faults                   every fault and pair of faults of a small job
+compare lengths                  lengths of 4 GiB and more
+compare verdicts < JOB           the library's verdicts, claim and verdict a line
+";
+
+/// Kinds and how many jobs of each the gate compares.
+const GATE: [(&str, u64); 12] = [
+    ("tiny", 6500),
+    ("small", 6500),
+    ("damaged", 5000),
+    ("empty", 200),
+    ("negloop", 500),
+    ("strat", 300),
+    ("cluster", 300),
+    ("random", 200),
+    ("ring", 200),
+    ("chain", 100),
+    ("tower", 200),
+    ("large", 50),
+];
+
+/// A made input is compared twice: its job alone, and all its bytes, with the
+/// schedule after the job, as one job.
+fn compare_input(totals: &mut Totals, name: &str, input: &[u8]) {
+    let (job, schedule) = part_input(input);
+    totals.compare(name, job);
+    if !schedule.is_empty() {
+        totals.compare(&format!("{name}, schedule included"), input);
+    }
+}
+
+/// The edge cases, beside the oracle and beside what is written down for each.
+fn compare_edges(totals: &mut Totals) {
+    for (seed, edge) in edge_cases().iter().enumerate() {
+        let name = format!("edge {seed} ({})", edge.name);
+        compare_input(totals, &name, &edge.bytes);
+        let checked = library::check(part_input(&edge.bytes).0);
+        let right = match edge.expected {
+            // Inputs this long and schedules are for the listing program.
+            _ if edge.bytes.len() > MAX_INPUT_BYTES => continue,
+            Expected::Refused(11, _) => checked.is_ok(),
+            Expected::Refused(number, place) => checked == Err(library::Refusal { number, place: place as u64 }),
+            Expected::Begins(_) | Expected::Whole(_) => checked.is_ok(),
+        };
+        if !right {
+            totals.differ(&name, &format!("check gives {checked:?}"));
+        }
+    }
+}
+
+fn compare_made(totals: &mut Totals, kind: &str, from: u64, count: u64) {
+    for seed in from..from + count {
+        let Some(input) = generate(kind, seed) else {
+            eprintln!("compare: no kind is called {kind}");
+            exit(2);
+        };
+        compare_input(totals, &format!("{kind} {seed}"), &input);
+    }
+}
+
+/// Runs one part and says what it compared.
+fn part(all: &mut Totals, title: &str, work: impl FnOnce(&mut Totals)) {
+    let start = Instant::now();
+    let mut totals = Totals::default();
+    work(&mut totals);
+    println!(
+        "{title}: {} jobs, {} accepted, {} refused, {} differences, {:.1} s",
+        totals.jobs,
+        totals.accepted,
+        totals.jobs - totals.accepted,
+        totals.differences,
+        start.elapsed().as_secs_f64()
+    );
+    all.add(&totals);
+}
+
+fn compare_gate(all: &mut Totals) {
+    part(all, "edges", compare_edges);
+    part(all, "single faults", faults::single_faults);
+    part(all, "double faults", faults::double_faults);
+    part(all, "long jobs", lengths::long_jobs);
+    part(all, "long outputs", lengths::long_outputs);
+    for (kind, count) in GATE {
+        part(all, kind, |totals| compare_made(totals, kind, 0, count));
+    }
+}
+
+fn kinds_named(names: &str) -> Vec<String> {
+    match names {
+        "all" => GATE.iter().map(|(kind, _)| kind.to_string()).collect(),
+        _ => names.split(',').map(str::to_string).collect(),
+    }
+}
+
+fn usage() -> ! {
+    eprint!("{USAGE}");
+    exit(2);
+}
+
+/// Prints the library's verdicts of the job on standard input; a schedule
+/// after it is left out.
+fn print_verdicts() {
+    let mut input = Vec::new();
+    std::io::stdin().lock().read_to_end(&mut input).expect("standard input can be read");
+    let mut verdicts = [0; 4096];
+    let mut out = String::new();
+    match library::evaluate(part_input(&input).0, &mut verdicts) {
+        Err(library::Refusal { number, place }) => out.push_str(&format!("refused {number} {place}\n")),
+        Ok(claims) => {
+            for (claim, &verdict) in verdicts[..claims].iter().enumerate() {
+                let name = ["unwritten", "true", "false", "undefined"].get(usize::from(verdict)).unwrap_or(&"unknown");
+                out.push_str(&format!("{claim} {name}\n"));
+            }
+        }
+    }
+    std::io::stdout().lock().write_all(out.as_bytes()).expect("standard output can be written");
+}
+
+fn main() {
+    let arguments: Vec<String> = std::env::args().skip(1).collect();
+    let words: Vec<&str> = arguments.iter().map(String::as_str).collect();
+    let mut all = Totals::default();
+    match words.as_slice() {
+        [] => compare_gate(&mut all),
+        ["edges"] => part(&mut all, "edges", compare_edges),
+        ["faults"] => {
+            part(&mut all, "single faults", faults::single_faults);
+            part(&mut all, "double faults", faults::double_faults);
+        }
+        ["lengths"] => {
+            part(&mut all, "long jobs", lengths::long_jobs);
+            part(&mut all, "long outputs", lengths::long_outputs);
+        }
+        ["made", kinds, from, count] => {
+            let (Ok(from), Ok(count)) = (from.parse(), count.parse()) else { usage() };
+            for kind in kinds_named(kinds) {
+                part(&mut all, &kind, |totals| compare_made(totals, &kind, from, count));
+            }
+        }
+        ["verdicts"] => return print_verdicts(),
+        _ => usage(),
+    }
+    all.summary();
+    exit(i32::from(all.differences > 0));
+}
