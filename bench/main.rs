@@ -28,23 +28,29 @@ const FIELDS: [(&str, &[u64]); 11] = [
     ("empty", &[1, 2]),
 ];
 
-/// One evaluator is run again and again for so long, but at most so often.
-const LONG_ENOUGH: Duration = Duration::from_millis(300);
+/// Two evaluators are run in turn for so long, but at most so often.
+const LONG_ENOUGH: Duration = Duration::from_millis(600);
 const OFTEN_ENOUGH: usize = 501;
 
-/// Seconds that a call takes: the median of several.
-fn median_time(mut call: impl FnMut()) -> f64 {
+fn time(call: impl FnOnce()) -> f64 {
     let start = Instant::now();
-    let mut times = Vec::new();
-    while times.is_empty() || (times.len() < OFTEN_ENOUGH && start.elapsed() < LONG_ENOUGH) {
-        let before = Instant::now();
-        call();
-        times.push(before.elapsed().as_secs_f64());
-    }
-    median(times)
+    call();
+    start.elapsed().as_secs_f64()
 }
 
-fn median(mut values: Vec<f64>) -> f64 {
+/// Seconds that each of two calls takes: the medians of several, in turn, so
+/// that what else the machine does meets both alike.
+fn median_times(mut first: impl FnMut(), mut second: impl FnMut()) -> [f64; 2] {
+    let start = Instant::now();
+    let mut times = [Vec::new(), Vec::new()];
+    while times[0].is_empty() || (times[0].len() < OFTEN_ENOUGH && start.elapsed() < LONG_ENOUGH) {
+        times[0].push(time(&mut first));
+        times[1].push(time(&mut second));
+    }
+    times.map(median)
+}
+
+pub fn median(mut values: Vec<f64>) -> f64 {
     values.sort_by(f64::total_cmp);
     values[values.len() / 2]
 }
@@ -70,23 +76,23 @@ struct Row {
 
 fn measure(kind: &'static str, seed: u64, bytes: &[u8]) -> Row {
     let job = Job::check(bytes).expect("a made field is accepted");
-    let mut verdicts = [0; 4096];
-    let oracle = median_time(|| {
-        oracle_evaluate(bytes, &mut verdicts);
-    });
-    let expected = verdicts;
-    let ours = median_time(|| {
-        library::evaluate(bytes, &mut verdicts).expect("a made field is accepted");
-    });
-    assert!(verdicts[..job.claims] == expected[..job.claims], "{kind} {seed}: the verdicts differ");
+    let (mut expected, mut verdicts) = ([0; 4096], [0; 4096]);
+    let [oracle, ours] = median_times(
+        || _ = oracle_evaluate(bytes, &mut expected),
+        || _ = library::evaluate(bytes, &mut verdicts).expect("a made field is accepted"),
+    );
+    assert!(verdicts == expected, "{kind} {seed}: the verdicts differ");
     let sizes = [job.claims, job.rules.len(), job.literals.len()];
     Row { kind, seed, sizes, ours, oracle, prolog: prolog::seconds(&job) }
 }
 
 /// A ratio, with fewer places the larger it is.
 fn ratio(over: f64, under: f64) -> String {
-    let value = over / under;
-    format!("{value:.*}", if value < 10.0 { 2 } else { 0 })
+    match over / under {
+        value if value < 0.1 => format!("{value:.4}"),
+        value if value < 10.0 => format!("{value:.2}"),
+        value => format!("{value:.0}"),
+    }
 }
 
 fn show(row: &Row) {

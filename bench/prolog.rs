@@ -8,7 +8,12 @@ use std::time::{Duration, Instant};
 use oracle::checks::Job;
 use oracle::prolog::prolog_program;
 
-/// A job that takes longer is given up.
+use crate::median;
+
+/// The time is the median of so many runs.
+const RUNS: usize = 3;
+
+/// A run that takes longer is given up.
 const LIMIT: Duration = Duration::from_secs(20);
 
 /// Below this its clock, of 0.1 ms, says nothing.
@@ -19,6 +24,15 @@ const PROGRAM: &str = "target/tests/bench.pl";
 /// The seconds, or why there are none.
 pub fn seconds(job: &Job) -> Result<f64, &'static str> {
     std::fs::write(PROGRAM, prolog_program(job, false, &vec![None; job.claims])).map_err(|_| "no file")?;
+    let times = (0..RUNS).map(|_| run_once()).collect::<Result<Vec<f64>, _>>()?;
+    let seconds = median(times);
+    if seconds < LEAST {
+        return Err("< 1");
+    }
+    Ok(seconds)
+}
+
+fn run_once() -> Result<f64, &'static str> {
     let mut child = Command::new("swipl")
         .args(["--stack-limit=8g", PROGRAM])
         .stdin(Stdio::null())
@@ -38,9 +52,5 @@ pub fn seconds(job: &Job) -> Result<f64, &'static str> {
     let mut text = String::new();
     child.stderr.take().expect("it was piped").read_to_string(&mut text).map_err(|_| "failed")?;
     let printed = text.lines().find_map(|line| line.strip_prefix("cpu "));
-    match printed.and_then(|number| number.parse().ok()) {
-        Some(seconds) if seconds < LEAST => Err("< 1"),
-        Some(seconds) => Ok(seconds),
-        None => Err("failed"),
-    }
+    printed.and_then(|number| number.parse().ok()).ok_or("failed")
 }
