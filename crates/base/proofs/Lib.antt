@@ -3,3 +3,7 @@ pub mod Compare
 pub mod Span
 pub mod Members
 pub mod Sets
+pub mod Search
+pub mod Sum
+pub mod Paths
+pub mod Acyclic

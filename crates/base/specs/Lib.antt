@@ -1,3 +1,5 @@
 pub mod Compare
 pub mod Span
 pub mod Sets
+pub mod Graph
+pub mod Sum

@@ -1,0 +1,6 @@
+pub mod State
+pub mod Steps
+pub mod Bound
+pub mod Runs
+pub mod Led
+pub mod Shape
