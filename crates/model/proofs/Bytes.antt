@@ -3,7 +3,7 @@
 --   copied-more                 one that is copied
 --   counted-yes, -no            one that is counted
 use Prim.Native.Nat.{ℕ, _+_, _≤_, _<_}
-use mathlib.Core.Path.{_≡_, refl, _∙_, ap, subst}
+use mathlib.Core.Path.{_≡_, _∙_, ap, subst}
 use mathlib.Core.Bool.{not}
 use mathlib.Core.List.{List}
 use mathlib.Core.Logic.{by-cases}
@@ -37,7 +37,9 @@ pub cleared-none : (w : List ℕ) → ((c : ℕ) → getD w c 0 ≡ 0) → (c : 
 unfolding setOf
 cleared-none w f c t = subst (λ (x : ℕ). T (not (eqb x 0))) (f c) t
 
-pub copied-more : (s w : List ℕ) (i : ℕ) → i < length w → ((k : ℕ) → k < i → getD w k 0 ≡ getD s k 0) → (k : ℕ) → k < i + 1 → getD (set w i (getD s i 0)) k 0 ≡ getD s k 0
+pub copied-more :
+    (s w : List ℕ) (i : ℕ) → i < length w → ((k : ℕ) → k < i → getD w k 0 ≡ getD s k 0) → (k : ℕ) → k < i + 1
+    → getD (set w i (getD s i 0)) k 0 ≡ getD s k 0
 copied-more s w i h f k lt =
     by-cases (ℕ-discrete k i) (λ e. rw (e, getD-set-same w i (getD s i 0) 0 h))
     (λ n. getD-set-other w i k (getD s i 0) 0 n ∙ f k (omega arith))

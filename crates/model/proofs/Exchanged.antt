@@ -1,4 +1,7 @@
--- The exchanged program as a list of rules: those of the claims whose verdict is not known, and those that the known verdicts stand for. Assumes nothing.
+-- The exchanged program as a list of rules: those of the claims whose verdict is not known, and those that the known verdicts
+-- stand for. Assumes nothing.
+--   past, within, kept-bodies   the bodies that each part gives a claim
+--   exchanged-program           the list of rules is that of the exchanged program
 use Prim.Native.Nat.{ℕ, zero, suc, _<_, _≤_}
 use mathlib.Core.Path.{_≡_, refl, sym, _∙_, ap, subst}
 use mathlib.Core.Bool.{Bool, true, false, cond}
@@ -62,7 +65,9 @@ abbrev left : Option Verdict → List Body → List Body
 left none bs = bs
 left (some v) bs = []
 
-keep-own : (o : Option Verdict) (r : Rule) (ks rs : List Rule) (c : ℕ) → bodiesOf ks c ≡ left o (bodiesOf rs c) → bodiesOf (keepOne o r ks) c ≡ left o (bodiesOf (r ∷ rs) c)
+keep-own :
+    (o : Option Verdict) (r : Rule) (ks rs : List Rule) (c : ℕ) → bodiesOf ks c ≡ left o (bodiesOf rs c)
+    → bodiesOf (keepOne o r ks) c ≡ left o (bodiesOf (r ∷ rs) c)
 keep-own none r ks rs c e = ap (λ (bs : List Body). cond (eqb (r .head) c) (r .body ∷ bs) bs) e
 keep-own (some v) r ks rs c e = e
 
@@ -101,7 +106,8 @@ module _ (known : ℕ → Option Verdict) where
         (λ h.
         let e : A ≤ c = omega arith in
         ap (λ (x : List Body). left (known c) (bodiesOf rules c) ++ x) (past known A c e)
-        ∙ subst (λ (o : Option Verdict). left o (bodiesOf rules c) ++ [] ≡ exchangedBodies c o (bodiesOf rules c)) (sym (inside c e)) (append-nil (bodiesOf rules c)))
+        ∙ subst (λ (o : Option Verdict). left o (bodiesOf rules c) ++ [] ≡ exchangedBodies c o (bodiesOf rules c))
+        (sym (inside c e)) (append-nil (bodiesOf rules c)))
 
     -- the list of rules is that of the exchanged program
     pub exchanged-program : program A (exchanged A known rules) ≡ exchange known (program A rules)

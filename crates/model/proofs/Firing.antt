@@ -1,6 +1,8 @@
 -- A body, literal by literal, as a loop tests it. Assumes nothing.
+--   holds-plain, holds-negated   whether a literal holds whose variant is known
+--   fires-stop, fires-on         a body whose first literal does not hold, and does
 use Prim.Native.Nat.{ℕ, _+_, _-_, _<_}
-use mathlib.Core.Path.{_≡_, refl, sym, _∙_, ap}
+use mathlib.Core.Path.{_≡_, sym, _∙_, ap}
 use mathlib.Core.Bool.{Bool, true, false, not}
 use Rattle.base.specs.Sets.{Claims}
 use Rattle.base.specs.Span.{span}

@@ -1,5 +1,6 @@
--- Known verdicts: the rules that each stands for, tried one by one; and a rule that is tried unless its head's verdict is known. Assumes nothing.
---   rule-known, rule-tried          a rule of the job
+-- Known verdicts: the rules that each stands for, tried one by one; and a rule of the job, tried unless its head's verdict is known.
+-- Assumes nothing.
+--   rule-known, rule-outside, ..    a rule of the job
 --   settle-zero, -two, ..           the rules of one known verdict
 --   below-none, below-one           no claim left; the rules of the last claim, and of those below
 --   listed                          the exchanged program, by its list of rules
@@ -63,11 +64,14 @@ module _ (S : Claims) (w g : List ℕ) (r : Rule) where
       let v = verdict-some (getD g (r .head) 0) n in
       passed-none S w (keepOne (verdictOf (getD g (r .head) 0)) r []) (ap (λ (o : Option Verdict). keepOne o r []) (v .1))
 
-  rule-tried : setOf g (r .head) ≡ false → (t : Bool) → t ≡ adds S w r → Passed S w (kept (knownOf g) (r ∷ [])) t (cond t (set w (r .head) 1) w)
+  rule-tried :
+      setOf g (r .head) ≡ false → (t : Bool) → t ≡ adds S w r
+      → Passed S w (kept (knownOf g) (r ∷ [])) t (cond t (set w (r .head) 1) w)
   unfolding setOf knownOf kept
   rule-tried e t q =
       let z : getD g (r .head) 0 ≡ 0 = eqb-true (getD g (r .head) 0) 0 (not-false (eqb (getD g (r .head) 0) 0) e) in
-      passed-one S w (keepOne (verdictOf (getD g (r .head) 0)) r []) r t (ap (λ (o : Option Verdict). keepOne o r []) (verdict-none (getD g (r .head) 0) z)) q
+      passed-one S w (keepOne (verdictOf (getD g (r .head) 0)) r []) r t
+      (ap (λ (o : Option Verdict). keepOne o r []) (verdict-none (getD g (r .head) 0) z)) q
 
   module _ (unknown : setOf g (r .head) ≡ false) where
     pub rule-outside : length w ≤ r .head → Passed S w (kept (knownOf g) (r ∷ [])) false w
@@ -79,7 +83,9 @@ module _ (S : Claims) (w g : List ℕ) (r : Rule) where
     pub rule-silent : fires S (setOf w) (r .body) ≡ false → Passed S w (kept (knownOf g) (r ∷ [])) false w
     rule-silent e = rule-tried unknown false (sym (adds-silent S w r e))
 
-    pub rule-adds : r .head < length w → getD w (r .head) 0 ≡ 0 → fires S (setOf w) (r .body) ≡ true → Passed S w (kept (knownOf g) (r ∷ [])) true (set w (r .head) 1)
+    pub rule-adds :
+        r .head < length w → getD w (r .head) 0 ≡ 0 → fires S (setOf w) (r .body) ≡ true
+        → Passed S w (kept (knownOf g) (r ∷ [])) true (set w (r .head) 1)
     rule-adds h z e = rule-tried unknown true (sym (adds-new S w r h z e))
 
 -- the rules of the known verdict x of claim c
@@ -119,7 +125,9 @@ module _ (S : Claims) (w : List ℕ) (x c : ℕ) where
       passed-one S w (rulesFor c (verdictOf x)) (rule (Negated c ∷ [])) false (ap (rulesFor c) (verdict-undefined x n₀ n₁ n₂))
       (sym (adds-silent S w (rule (Negated c ∷ [])) (rw e)))
 
-  pub settle-undefined : (x ≡ 0 → ⊥) → (x ≡ 1 → ⊥) → (x ≡ 2 → ⊥) → S c ≡ false → c < length w → getD w c 0 ≡ 0 → Passed S w (rulesFor c (verdictOf x)) true (set w c 1)
+  pub settle-undefined :
+      (x ≡ 0 → ⊥) → (x ≡ 1 → ⊥) → (x ≡ 2 → ⊥) → S c ≡ false → c < length w → getD w c 0 ≡ 0
+      → Passed S w (rulesFor c (verdictOf x)) true (set w c 1)
   unfolding rule
   settle-undefined n₀ n₁ n₂ e h z =
       passed-one S w (rulesFor c (verdictOf x)) (rule (Negated c ∷ [])) true (ap (rulesFor c) (verdict-undefined x n₀ n₁ n₂))
@@ -131,19 +139,25 @@ unfolding rulesBelow
 below-none known zero h = refl
 below-none known (suc n) h = absurd (omega arith)
 
-below-split : (known : ℕ → Option Verdict) (n : ℕ) → 0 < n → rulesBelow known n ≡ rulesFor (n - 1) (known (n - 1)) ++ rulesBelow known (n - 1)
+below-split :
+    (known : ℕ → Option Verdict) (n : ℕ) → 0 < n
+    → rulesBelow known n ≡ rulesFor (n - 1) (known (n - 1)) ++ rulesBelow known (n - 1)
 unfolding rulesBelow
 below-split known zero h = absurd (omega arith)
 below-split known (suc n) h =
     let e : n ≡ suc n - 1 = omega arith in
     ap (λ (k : ℕ). rulesFor k (known k) ++ rulesBelow known k) e
 
-pub below-one : (g : List ℕ) (n : ℕ) → 0 < n → rulesBelow (knownOf g) n ≡ rulesFor (n - 1) (verdictOf (getD g (n - 1) 0)) ++ rulesBelow (knownOf g) (n - 1)
+pub below-one :
+    (g : List ℕ) (n : ℕ) → 0 < n
+    → rulesBelow (knownOf g) n ≡ rulesFor (n - 1) (verdictOf (getD g (n - 1) 0)) ++ rulesBelow (knownOf g) (n - 1)
 unfolding knownOf
 below-one g n h = below-split (knownOf g) n h
 
 -- the rules that `exchanged` lists are those of the exchanged program
-pub listed : (s g : List ℕ) → length g ≡ claims s → program (claims s) (exchanged (length g) (knownOf g) (jobOf s .rules)) ≡ givenProgram s g
+pub listed :
+    (s g : List ℕ) → length g ≡ claims s
+    → program (claims s) (exchanged (length g) (knownOf g) (jobOf s .rules)) ≡ givenProgram s g
 unfolding jobOf
 listed s g e =
     ap (λ (n : ℕ). program (claims s) (exchanged n (knownOf g) (jobOf s .rules))) e

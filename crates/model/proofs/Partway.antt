@@ -36,7 +36,9 @@ partway-start S w all = record { long = refl; changed = refl; made = refl }
 
 module _ (S : Claims) (w₀ : List ℕ) (all : List Rule) (b : Bool) (w : List ℕ) (rest : List Rule) (so-far : Partway S w₀ all b w rest) where
   -- `part` is tried next, t says whether it changed w, and b′ whether anything did
-  pub partway-more : (part rest′ : List Rule) (t b′ : Bool) (w′ : List ℕ) → rest ≡ part ++ rest′ → Passed S w part t w′ → b′ ≡ (b || t) → Partway S w₀ all b′ w′ rest′
+  pub partway-more :
+      (part rest′ : List Rule) (t b′ : Bool) (w′ : List ℕ) → rest ≡ part ++ rest′ → Passed S w part t w′ → b′ ≡ (b || t)
+      → Partway S w₀ all b′ w′ rest′
   partway-more part rest′ t b′ w′ split passed flag =
       record {
         long = ap length (passed .made) ∙ after-length S part w ∙ so-far .long;
@@ -76,16 +78,22 @@ pub either-second : (r r′ : Bool) → r ≡ false → r′ ≡ (r || r′)
 either-second r r′ e = rw e
 
 -- one list of rules after the other, whose flags are r and r′
-pub passed-two : (S : Claims) (a b : List Rule) (w w′ w″ : List ℕ) (r r′ t : Bool) → Passed S w a r w′ → Passed S w′ b r′ w″ → t ≡ (r || r′) → Passed S w (a ++ b) t w″
+pub passed-two :
+    (S : Claims) (a b : List Rule) (w w′ w″ : List ℕ) (r r′ t : Bool) → Passed S w a r w′ → Passed S w′ b r′ w″
+    → t ≡ (r || r′) → Passed S w (a ++ b) t w″
 passed-two S a b w w′ w″ r r′ t p q e =
-    partway-done S w (a ++ b) t w″ [] (partway-more S w (a ++ b) r w′ b (partway-more S w (a ++ b) false w (a ++ b) (partway-start S w (a ++ b)) a b r r w′ refl p refl) b [] r′ t w″ (sym (append-nil b)) q e) refl
+    partway-done S w (a ++ b) t w″ []
+    (partway-more S w (a ++ b) r w′ b (partway-more S w (a ++ b) false w (a ++ b) (partway-start S w (a ++ b)) a b r r w′ refl p refl) b [] r′ t w″ (sym (append-nil b)) q e)
+    refl
 
 -- no rule, and one
 pub passed-none : (S : Claims) (w : List ℕ) (rs : List Rule) → rs ≡ [] → Passed S w rs false w
 unfolding after changes
 passed-none S w rs e = record { changed = ap (changes S w) (sym e); made = ap (after S w) (sym e) }
 
-pub passed-one : (S : Claims) (w : List ℕ) (rs : List Rule) (r : Rule) (t : Bool) → rs ≡ r ∷ [] → t ≡ adds S w r → Passed S w rs t (cond t (set w (r .head) 1) w)
+pub passed-one :
+    (S : Claims) (w : List ℕ) (rs : List Rule) (r : Rule) (t : Bool) → rs ≡ r ∷ [] → t ≡ adds S w r
+    → Passed S w rs t (cond t (set w (r .head) 1) w)
 unfolding after changes tried
 passed-one S w rs r t e q =
     record {

@@ -63,9 +63,12 @@ later : (x : Rule) (rs : List Rule) (c : ℕ) (b : Body) → RuleOf rs c b → R
 unfolding RuleOf
 later x rs c b q = (q .0, List·Memᴰ·tail (q .1), q .2, q .3)
 
-one-out : (x : Rule) (rs : List Rule) (c : ℕ) (b : Body) → (b ∈ bodiesOf rs c → RuleOf rs c b) → (t : Bool) → eqb (x .head) c ≡ t → b ∈ cond t (x .body ∷ bodiesOf rs c) (bodiesOf rs c) → RuleOf (x ∷ rs) c b
+one-out :
+    (x : Rule) (rs : List Rule) (c : ℕ) (b : Body) → (b ∈ bodiesOf rs c → RuleOf rs c b) → (t : Bool)
+    → eqb (x .head) c ≡ t → b ∈ cond t (x .body ∷ bodiesOf rs c) (bodiesOf rs c) → RuleOf (x ∷ rs) c b
 unfolding RuleOf
-one-out x rs c b rec true e m = ⊎-elim (λ q. (x, List·Memᴰ·head refl, eqb-true (x .head) c e, q)) (λ k. later x rs c b (rec k)) (List·Memᴰ·cases-cons m)
+one-out x rs c b rec true e m =
+    ⊎-elim (λ q. (x, List·Memᴰ·head refl, eqb-true (x .head) c e, q)) (λ k. later x rs c b (rec k)) (List·Memᴰ·cases-cons m)
 one-out x rs c b rec false e m = later x rs c b (rec m)
 
 bodies-out : (rs : List Rule) (c : ℕ) (b : Body) → b ∈ bodiesOf rs c → RuleOf rs c b
@@ -118,7 +121,8 @@ third false b c e p q = absurd p
 module _ (S : Claims) (w : List ℕ) (r : Rule) where
   adds-inside : T (adds S w r) → r .head < length w
   unfolding adds
-  adds-inside t = ltb→lt (r .head) (length w) (and-left (ltb (r .head) (length w)) (not (setOf w (r .head)) && fires S (setOf w) (r .body)) t)
+  adds-inside t =
+      ltb→lt (r .head) (length w) (and-left (ltb (r .head) (length w)) (not (setOf w (r .head)) && fires S (setOf w) (r .body)) t)
 
   adds-fresh : T (adds S w r) → T (setOf w (r .head)) → ⊥
   unfolding adds
@@ -128,7 +132,9 @@ module _ (S : Claims) (w : List ℕ) (r : Rule) where
 
   adds-fires : T (adds S w r) → T (fires S (setOf w) (r .body))
   unfolding adds
-  adds-fires t = and-right (not (setOf w (r .head))) (fires S (setOf w) (r .body)) (and-right (ltb (r .head) (length w)) (not (setOf w (r .head)) && fires S (setOf w) (r .body)) t)
+  adds-fires t =
+      and-right (not (setOf w (r .head))) (fires S (setOf w) (r .body))
+      (and-right (ltb (r .head) (length w)) (not (setOf w (r .head)) && fires S (setOf w) (r .body)) t)
 
   adds-not : adds S w r ≡ false → r .head < length w → T (fires S (setOf w) (r .body)) → T (setOf w (r .head))
   unfolding adds
@@ -171,7 +177,10 @@ module _ (S : Claims) where
   after-keeps [] w c t = t
   after-keeps (r ∷ rs) w c t = after-keeps rs (tried S w r) c (tried-keeps S w r c t)
 
-  after-within : (A : ℕ) (W : Claims) (rs : List Rule) → ((r : Rule) → r ∈ rs → (X : Claims) → X ⊆ W → r .head < A → T (fires S X (r .body)) → T (W (r .head))) → (w : List ℕ) → length w ≡ A → setOf w ⊆ W → setOf (after S w rs) ⊆ W
+  after-within :
+      (A : ℕ) (W : Claims) (rs : List Rule)
+      → ((r : Rule) → r ∈ rs → (X : Claims) → X ⊆ W → r .head < A → T (fires S X (r .body)) → T (W (r .head)))
+      → (w : List ℕ) → length w ≡ A → setOf w ⊆ W → setOf (after S w rs) ⊆ W
   unfolding after
   after-within A W [] closed w e sub c t = sub c t
   after-within A W (r ∷ rs) closed w e sub c t =
@@ -189,17 +198,21 @@ module _ (S : Claims) where
       let ih = after-same rs (tried S w r) (q .1) in (
         ih .0 ∙ n,
         λ x m.
-            ⊎-elim (λ i. subst⁻¹ (λ (y : Rule). adds S w y ≡ false) i (q .0)) (λ k. subst (λ (v : List ℕ). adds S v x ≡ false) n (ih .1 x k))
+            ⊎-elim (λ i. subst⁻¹ (λ (y : Rule). adds S w y ≡ false) i (q .0))
+            (λ k. subst (λ (v : List ℕ). adds S v x ≡ false) n (ih .1 x k))
             (List·Memᴰ·cases-cons m),
       )
 
-  pub after-more : (rs : List Rule) (w : List ℕ) → changes S w rs ≡ true → count (setOf w) (length w) < count (setOf (after S w rs)) (length w)
+  pub after-more :
+      (rs : List Rule) (w : List ℕ) → changes S w rs ≡ true
+      → count (setOf w) (length w) < count (setOf (after S w rs)) (length w)
   unfolding after changes
   after-more [] w e = absurd (subst T (sym e) tt)
   after-more (r ∷ rs) w e =
       ⊎-elim
       (λ t.
-      count-less (setOf w) (setOf (after S (tried S w r) rs)) (λ c u. after-keeps rs (tried S w r) c (tried-keeps S w r c u)) (length w) (r .head)
+      count-less (setOf w) (setOf (after S (tried S w r) rs)) (λ c u. after-keeps rs (tried S w r) c (tried-keeps S w r c u))
+      (length w) (r .head)
       (adds-inside S w r t) (after-keeps rs (tried S w r) (r .head) (tried-yes S w r t)) (adds-fresh S w r t))
       (λ q.
       subst (λ (v : List ℕ). count (setOf v) (length v) < count (setOf (after S (tried S w r) rs)) (length v)) (tried-no S w r (q .0))
@@ -210,7 +223,9 @@ module _ (S : Claims) where
   module _ (rules : List Rule) (w : List ℕ) (sub : setOf w ⊆ D (program (length w) rules) S) where
     pub pass-sound : setOf (after S w rules) ⊆ D (program (length w) rules) S
     pass-sound =
-        after-within (length w) (D P S) rules (λ r m X inside h t. D-closed P S (r .head) (step-more S S X (D P S) (λ c u. u) inside P (r .head) (step-in (length w) rules S X r m h t))) w refl sub
+        after-within (length w) (D P S) rules
+        (λ r m X inside h t. D-closed P S (r .head) (step-more S S X (D P S) (λ c u. u) inside P (r .head) (step-in (length w) rules S X r m h t)))
+        w refl sub
       where
         P : Program
         P = program (length w) rules

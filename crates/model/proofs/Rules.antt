@@ -3,9 +3,9 @@
 --   body-first                          where the first rule's body starts
 --   toCome s g i                        the rules from rule i on, of claims whose verdict is not known by g
 --   pass-start, pass-more, pass-done    a pass over them
---   fits-claims                         a set of claims fits 4,096 bytes
+--   fits-claims                         the claims fit as many bytes as there are claims at most
 --   claims-given                        how many claims the exchanged program has
-use Prim.Native.Nat.{ℕ, zero, suc, _+_, _-_, _<_, _≤_}
+use Prim.Native.Nat.{ℕ, _+_, _-_, _<_, _≤_}
 use mathlib.Core.Path.{_≡_, refl, sym, _∙_, ap, ap₂, subst}
 use mathlib.Core.Bool.{Bool, false, _||_}
 use mathlib.Core.List.{List, [], _∷_, _++_}
@@ -15,8 +15,8 @@ use lib.ListN.{length}
 use Rattle.base.specs.Sets.{Claims}
 use Rattle.base.specs.Span.{span}
 use Rattle.base.proofs.Span.{span-none, span-one}
-use Rattle.job.specs.Job.{Rule}
-use Rattle.job.specs.Format.{claims, rules, literals, ruleByte, literalByte, headAt, bodyLengthAt, bodyStart, literalAt, ruleAt, jobOf}
+use Rattle.job.specs.Job.{Rule, mostClaims}
+use Rattle.job.specs.Format.{claims, rules, ruleByte, literalByte, headAt, bodyLengthAt, bodyStart, literalAt, ruleAt, jobOf}
 use Rattle.job.specs.Accepted.{WellFormed}
 use Rattle.job.proofs.Parts.{body-within}
 use Rattle.model.specs.Model.{program, Verdict, knownOf}
@@ -24,7 +24,7 @@ use Rattle.model.specs.Passes.{Passed, keepOne, kept, givenProgram}
 use Rattle.model.proofs.Partway.{Partway, partway-start, partway-more, partway-done}
 
 -- the claims fit the room that is kept for them
-pub fits-claims : {n : ℕ} (s : List ℕ) → WellFormed s → n ≡ claims s → n ≤ 4096
+pub fits-claims : {n : ℕ} (s : List ℕ) → WellFormed s → n ≡ claims s → n ≤ mostClaims
 fits-claims s good e = omega (arith, good .sized .claimsMost)
 
 module _ (s : List ℕ) (good : WellFormed s) where
@@ -35,8 +35,9 @@ module _ (s : List ℕ) (good : WellFormed s) where
     pub rule-room : ruleByte i + 4 ≤ length s
     rule-room = omega (arith, good .sized .size)
 
-    pub body-room : literalByte (rules s) (bodyStart s i + bodyLengthAt s i) ≤ length s
-    body-room = omega (arith, good .sized .size, good .bodies, body-within s i (rules s) more)
+    -- of the body whose start and length were read, and of the count of rules that was read
+    pub body-room : (m k n : ℕ) → m ≡ rules s → k ≡ bodyStart s i → n ≡ bodyLengthAt s i → literalByte m (k + n) ≤ length s
+    body-room m k n em ek en = omega (arith, good .sized .size, good .bodies, body-within s i (rules s) more)
 
 pub body-first : (s : List ℕ) → bodyStart s 0 ≡ 0
 unfolding bodyStart
@@ -47,7 +48,9 @@ keep-append none r rs = refl
 keep-append (some v) r rs = refl
 
 -- the rule whose head and body were read
-rule-read : (s : List ℕ) (m m′ i h k n : ℕ) → m′ ≡ m → h ≡ headAt s i → k ≡ bodyStart s i → n ≡ bodyLengthAt s i → record { head = h; body = span (literalAt s m′) k n } ≡ ruleAt s m i
+rule-read :
+    (s : List ℕ) (m m′ i h k n : ℕ) → m′ ≡ m → h ≡ headAt s i → k ≡ bodyStart s i → n ≡ bodyLengthAt s i
+    → record { head = h; body = span (literalAt s m′) k n } ≡ ruleAt s m i
 unfolding ruleAt
 rule-read s m m′ i h k n a b c d = rw (a, b, c, d)
 
@@ -58,9 +61,13 @@ pub pass-start : (S : Claims) (s g w : List ℕ) → Partway S w (kept (knownOf 
 unfolding jobOf
 pass-start S s g w =
     let e : rules s ≡ rules s - 0 = omega arith in
-    subst (λ (n : ℕ). Partway S w (kept (knownOf g) (span (ruleAt s (rules s)) 0 (rules s))) false w (kept (knownOf g) (span (ruleAt s (rules s)) 0 n))) e (partway-start S w _)
+    subst
+    (λ (n : ℕ). Partway S w (kept (knownOf g) (span (ruleAt s (rules s)) 0 (rules s))) false w (kept (knownOf g) (span (ruleAt s (rules s)) 0 n)))
+    e (partway-start S w _)
 
-rules-one : (s g : List ℕ) (i : ℕ) (r : Rule) → r ≡ ruleAt s (rules s) i → i < rules s → toCome s g i ≡ kept (knownOf g) (r ∷ []) ++ toCome s g (i + 1)
+rules-one :
+    (s g : List ℕ) (i : ℕ) (r : Rule) → r ≡ ruleAt s (rules s) i → i < rules s
+    → toCome s g i ≡ kept (knownOf g) (r ∷ []) ++ toCome s g (i + 1)
 unfolding kept
 rules-one s g i r e h =
     let f = ruleAt s (rules s) in
@@ -69,11 +76,19 @@ rules-one s g i r e h =
     ∙ keep-append (knownOf g (r .head)) r (toCome s g (i + 1))
 
 -- h, k and n are what was read of rule i, t whether it added its head
-pub pass-more : (S : Claims) (s g w₀ w w′ : List ℕ) (all : List Rule) (b t b′ : Bool) (m i h k n : ℕ) → Partway S w₀ all b w (toCome s g i) → i < rules s → m ≡ rules s → h ≡ headAt s i → k ≡ bodyStart s i → n ≡ bodyLengthAt s i → Passed S w (kept (knownOf g) (record { head = h; body = span (literalAt s m) k n } ∷ [])) t w′ → b′ ≡ (b || t) → Partway S w₀ all b′ w′ (toCome s g (i + 1))
+pub pass-more :
+    (S : Claims) (s g w₀ w w′ : List ℕ) (all : List Rule) (b t b′ : Bool) (m i h k n : ℕ)
+    → Partway S w₀ all b w (toCome s g i) → i < rules s → m ≡ rules s → h ≡ headAt s i → k ≡ bodyStart s i
+    → n ≡ bodyLengthAt s i
+    → Passed S w (kept (knownOf g) (record { head = h; body = span (literalAt s m) k n } ∷ [])) t w′ → b′ ≡ (b || t)
+    → Partway S w₀ all b′ w′ (toCome s g (i + 1))
 pass-more S s g w₀ w w′ all b t b′ m i h k n so-far more em eh ek en passed flag =
-    partway-more S w₀ all b w (toCome s g i) so-far _ (toCome s g (i + 1)) t b′ w′ (rules-one s g i _ (rule-read s (rules s) m i h k n em eh ek en) more) passed flag
+    partway-more S w₀ all b w (toCome s g i) so-far _ (toCome s g (i + 1)) t b′ w′
+    (rules-one s g i _ (rule-read s (rules s) m i h k n em eh ek en) more) passed flag
 
-pub pass-done : (S : Claims) (s g w₀ w : List ℕ) (all : List Rule) (b : Bool) (i : ℕ) → Partway S w₀ all b w (toCome s g i) → rules s ≤ i → Passed S w₀ all b w
+pub pass-done :
+    (S : Claims) (s g w₀ w : List ℕ) (all : List Rule) (b : Bool) (i : ℕ) → Partway S w₀ all b w (toCome s g i)
+    → rules s ≤ i → Passed S w₀ all b w
 unfolding kept
 pass-done S s g w₀ w all b i so-far h =
     partway-done S w₀ all b w (toCome s g i) so-far (ap (kept (knownOf g)) (span-none (ruleAt s (rules s)) i (rules s - i) (omega arith)))

@@ -1,6 +1,7 @@
 pub mod Model
 pub mod Derived
+pub mod Output
 pub mod Theorems
 pub mod Fields
 pub mod Passes
-pub mod Output
+pub mod Rounds

@@ -9,6 +9,9 @@
 --   rulesFor c v          the rules that the known verdict of claim c stands for
 --   rulesBelow known n    those of the claims below n
 --   exchanged A known rs  the exchanged program, as a list of rules
+--   ruleOf s m h k n      the rule with head h and n literals from literal k on, of a job of bytes s with m rules
+--   ownRules s g          the rules of the job of bytes s, of claims whose verdict is not known by bytes g
+--   knownRules g          the rules that the verdicts known by bytes g stand for
 --   givenProgram s g      the program of the job of bytes s, exchanged by the known verdicts of bytes g
 use Prim.Native.Nat.{ℕ, zero, suc}
 use mathlib.Core.Path.{_≡_}
@@ -18,8 +21,9 @@ use mathlib.Core.Option.{Option, none, some}
 use lib.Dec.{ltb, eqb}
 use lib.ListN.{length, set, getD}
 use Rattle.base.specs.Sets.{Claims}
+use Rattle.base.specs.Span.{span}
 use Rattle.job.specs.Job.{Rule}
-use Rattle.job.specs.Format.{jobOf}
+use Rattle.job.specs.Format.{literalAt, jobOf}
 use Rattle.job.specs.declared.Literal.the-variants.{Negated}
 use Rattle.model.specs.Model.{Program, programOf, fires, Verdict, True, False, Undefined, exchange, knownOf}
 
@@ -64,6 +68,15 @@ rulesBelow known (suc n) = rulesFor n (known n) ++ rulesBelow known n
 
 abbrev pub exchanged : ℕ → (ℕ → Option Verdict) → List Rule → List Rule
 exchanged A known rs = kept known rs ++ rulesBelow known A
+
+abbrev pub ruleOf : List ℕ → ℕ → ℕ → ℕ → ℕ → Rule
+ruleOf s m h k n = record { head = h; body = span (literalAt s m) k n }
+
+abbrev pub ownRules : List ℕ → List ℕ → List Rule
+ownRules s g = kept (knownOf g) (jobOf s .rules)
+
+abbrev pub knownRules : List ℕ → List Rule
+knownRules g = rulesBelow (knownOf g) (length g)
 
 abbrev pub givenProgram : List ℕ → List ℕ → Program
 givenProgram s g = exchange (knownOf g) (programOf (jobOf s))

@@ -3,14 +3,17 @@
 // The contracts cite specs/Model and specs/Passes.
 ghost use mathlib.Core.Path.{_≡_};
 ghost use Prim.Native.Nat.{_+_, _≤_};
-ghost use mathlib.Core.List.{[], _∷_};
+ghost use mathlib.Core.List.{[], _∷_, _++_};
 ghost use lib.ListN.{length};
 ghost use Rattle.base.specs.Sets.{_⊆_};
 ghost use Rattle.base.specs.Span.{span};
 ghost use Rattle.job.specs.Accepted.{WellFormed};
-ghost use Rattle.job.specs.Format.{claims, literalByte, literalAt, jobOf};
+ghost use Rattle.job.specs.Format.{claims, literalByte, literalAt};
 ghost use Rattle.model.specs.Model.{holds, fires, D, verdictOf, knownOf};
-ghost use Rattle.model.specs.Passes.{setOf, Passed, kept, rulesFor, rulesBelow, exchanged, givenProgram};
+ghost use Rattle.model.specs.Passes.{setOf, Passed, kept, rulesFor, ruleOf, ownRules, knownRules, givenProgram};
+use crate::FALSE;
+use crate::TRUE;
+use crate::UNKNOWN;
 use crate::sets;
 use job::Literal;
 use job::format;
@@ -55,7 +58,7 @@ fn try_rule(
     w: &mut [u8],
 ) -> bool
     requires { ⌜ literalByte rules (k + n) ≤ length (now job) ⌝ }
-    ensures { λ r. ⌜ Passed (setOf (now (s .entry))) (now (w .entry)) (kept (knownOf (now (known .entry))) (record { head = head; body = span (literalAt (now (job .entry)) rules) k n } ∷ [])) r (now (w .exit)) ⌝ }
+    ensures { λ r. ⌜ Passed (setOf (now (s .entry))) (now (w .entry)) (kept (knownOf (now (known .entry))) (ruleOf (now (job .entry)) rules head k n ∷ [])) r (now (w .exit)) ⌝ }
 {
     if sets::member(known, head) {
         return false;
@@ -76,7 +79,7 @@ fn try_rule(
 // One pass over the job's own rules. Whether it added any claim to w.
 fn pass(job: &[u8], known: &[u8], s: &[u8], w: &mut [u8]) -> bool
     requires { ⌜ WellFormed (now job) ⌝ }
-    ensures { λ r. ⌜ Passed (setOf (now (s .entry))) (now (w .entry)) (kept (knownOf (now (known .entry))) (jobOf (now (job .entry)) .rules)) r (now (w .exit)) ⌝ }
+    ensures { λ r. ⌜ Passed (setOf (now (s .entry))) (now (w .entry)) (ownRules (now (job .entry)) (now (known .entry))) r (now (w .exit)) ⌝ }
 {
     let rules = format::rule_count(job);
     let mut i = 0;
@@ -98,10 +101,10 @@ fn pass(job: &[u8], known: &[u8], s: &[u8], w: &mut [u8]) -> bool
 fn settle(x: u8, c: usize, s: &[u8], w: &mut [u8]) -> bool
     ensures { λ r. ⌜ Passed (setOf (now (s .entry))) (now (w .entry)) (rulesFor c (verdictOf x)) r (now (w .exit)) ⌝ }
 {
-    if x == 0 {
+    if x == UNKNOWN {
         return false;
     }
-    if x == 2 {
+    if x == FALSE {
         return false;
     }
     if w.len() <= c {
@@ -110,7 +113,7 @@ fn settle(x: u8, c: usize, s: &[u8], w: &mut [u8]) -> bool
     if w[c] != 0 {
         return false;
     }
-    if x == 1 {
+    if x == TRUE {
         w[c] = 1;
         return true;
     }
@@ -123,7 +126,7 @@ fn settle(x: u8, c: usize, s: &[u8], w: &mut [u8]) -> bool
 
 // The same for every known verdict, from the last claim down.
 fn settle_all(known: &[u8], s: &[u8], w: &mut [u8]) -> bool
-    ensures { λ r. ⌜ Passed (setOf (now (s .entry))) (now (w .entry)) (rulesBelow (knownOf (now (known .entry))) (length (now (known .entry)))) r (now (w .exit)) ⌝ }
+    ensures { λ r. ⌜ Passed (setOf (now (s .entry))) (now (w .entry)) (knownRules (now (known .entry))) r (now (w .exit)) ⌝ }
 {
     let mut i = known.len();
     let mut changed = false;
@@ -139,7 +142,7 @@ fn settle_all(known: &[u8], s: &[u8], w: &mut [u8]) -> bool
 // One pass over the rules of the exchanged program. Whether it added any claim to w.
 fn pass_all(job: &[u8], known: &[u8], s: &[u8], w: &mut [u8]) -> bool
     requires { ⌜ WellFormed (now job) ⌝ }
-    ensures { λ r. ⌜ Passed (setOf (now (s .entry))) (now (w .entry)) (exchanged (length (now (known .entry))) (knownOf (now (known .entry))) (jobOf (now (job .entry)) .rules)) r (now (w .exit)) ⌝ }
+    ensures { λ r. ⌜ Passed (setOf (now (s .entry))) (now (w .entry)) (ownRules (now (job .entry)) (now (known .entry)) ++ knownRules (now (known .entry))) r (now (w .exit)) ⌝ }
 {
     let first = pass(job, known, s, w);
     let second = settle_all(known, s, w);

@@ -1,19 +1,38 @@
 // The evaluation of a job: the verdict of every claim in its well-founded model. The contracts cite specs/Model and specs/Output.
 ghost use mathlib.Core.Path.{_≡_};
 ghost use Prim.Native.Nat.{_≤_};
-ghost use mathlib.Core.List.{_++_};
-ghost use lib.ListN.{length, drop};
-ghost use Rattle.base.specs.Span.{span};
+ghost use lib.ListN.{length};
+ghost use Rattle.base.specs.Sets.{count};
 ghost use Rattle.job.specs.Accepted.{WellFormed};
-ghost use Rattle.job.specs.Format.{claims, jobOf};
-ghost use Rattle.model.specs.Model.{programOf, K, U, exchange, knownOf};
-ghost use Rattle.model.specs.Output.{verdictBytes, judgedByte, Evaluated};
+ghost use Rattle.job.specs.Format.{claims};
+ghost use Rattle.model.specs.Model.{K, U};
+ghost use Rattle.model.specs.Output.{judgedByte, judgedOutput, knownOutput, Evaluated};
 ghost use Rattle.model.specs.Passes.{setOf, givenProgram};
+ghost use Rattle.model.specs.Rounds.{Rising, Round};
+use crate::FALSE;
+use crate::TRUE;
+use crate::UNDEFINED;
 use crate::derive;
 use crate::sets;
 use job::Check;
 use job::checks;
 use job::format;
+
+const MOST_CLAIMS: usize = 4096;
+
+// One round of the alternation, from the K so far in k: U = D(K) into u, then D(U) into k. How many claims k then has.
+fn round(job: &[u8], known: &[u8], k: &mut [u8], u: &mut [u8]) -> usize
+    requires { ⌜ WellFormed (now job) ⌝ }
+    requires { ⌜ (length (now known) ≡ claims (now job)) × (length (now k) ≡ claims (now job)) × (length (now u) ≡ claims (now job)) ⌝ }
+    requires { ⌜ Rising (givenProgram (now job) (now known)) (setOf (now k)) ⌝ }
+    ensures { λ r. ⌜ Round (givenProgram (now (job .entry)) (now (known .entry))) (setOf (now (k .entry))) (setOf (now (u .exit))) (setOf (now (k .exit))) ⌝ }
+    ensures { λ r. ⌜ r ≡ count (setOf (now (k .exit))) (claims (now (job .entry))) ⌝ }
+{
+    sets::copy(k, u);
+    derive::close(job, known, k, u);
+    derive::close(job, known, u, k);
+    sets::size(k)
+}
 
 // The alternating fixpoint: K in k and U in u.
 fn alternate(job: &[u8], known: &[u8], k: &mut [u8], u: &mut [u8])
@@ -25,10 +44,7 @@ fn alternate(job: &[u8], known: &[u8], k: &mut [u8], u: &mut [u8])
     sets::clear(k);
     let mut before = 0;
     loop {
-        sets::copy(k, u);
-        derive::close(job, known, k, u);
-        derive::close(job, known, u, k);
-        let n = sets::size(k);
+        let n = round(job, known, k, u);
         if n <= before {
             return;
         }
@@ -41,18 +57,18 @@ fn byte_of(k: &[u8], u: &[u8], c: usize) -> u8
     ensures { λ r. ⌜ r ≡ judgedByte (setOf (now (k .entry))) (setOf (now (u .entry))) c ⌝ }
 {
     if sets::member(k, c) {
-        return 1;
+        return TRUE;
     }
     if sets::member(u, c) {
-        return 3;
+        return UNDEFINED;
     }
-    2
+    FALSE
 }
 
 // Writes the verdicts that K and U give, a byte a claim, and nothing after them.
 fn write(k: &[u8], u: &[u8], out: &mut [u8])
     requires { ⌜ length (now k) ≤ length (now out) ⌝ }
-    ensures { λ r. ⌜ now (out .exit) ≡ span (judgedByte (setOf (now (k .entry))) (setOf (now (u .entry)))) 0 (length (now (k .entry))) ++ drop (length (now (k .entry))) (now (out .entry)) ⌝ }
+    ensures { λ r. ⌜ now (out .exit) ≡ judgedOutput (setOf (now (k .entry))) (setOf (now (u .entry))) (length (now (k .entry))) (now (out .entry)) ⌝ }
 {
     let mut c = 0;
     while c < k.len() {
@@ -66,7 +82,7 @@ fn evaluate_in(job: &[u8], known: &[u8], k: &mut [u8], u: &mut [u8], out: &mut [
     requires { ⌜ WellFormed (now job) ⌝ }
     requires { ⌜ (length (now known) ≡ claims (now job)) × (length (now k) ≡ claims (now job)) × (length (now u) ≡ claims (now job)) ⌝ }
     requires { ⌜ claims (now job) ≤ length (now out) ⌝ }
-    ensures { λ r. ⌜ now (out .exit) ≡ verdictBytes (givenProgram (now (job .entry)) (now (known .entry))) ++ drop (claims (now (job .entry))) (now (out .entry)) ⌝ }
+    ensures { λ r. ⌜ now (out .exit) ≡ knownOutput (now (job .entry)) (now (known .entry)) (now (out .entry)) ⌝ }
 {
     alternate(job, known, k, u);
     write(k, u, out);
@@ -77,11 +93,11 @@ fn evaluate_in(job: &[u8], known: &[u8], k: &mut [u8], u: &mut [u8], out: &mut [
 pub fn evaluate_known(job: &[u8], known: &[u8], out: &mut [u8])
     requires { ⌜ WellFormed (now job) ⌝ }
     requires { ⌜ (length (now known) ≡ claims (now job)) × (claims (now job) ≤ length (now out)) ⌝ }
-    ensures { λ r. ⌜ now (out .exit) ≡ verdictBytes (exchange (knownOf (now (known .entry))) (programOf (jobOf (now (job .entry))))) ++ drop (claims (now (job .entry))) (now (out .entry)) ⌝ }
+    ensures { λ r. ⌜ now (out .exit) ≡ knownOutput (now (job .entry)) (now (known .entry)) (now (out .entry)) ⌝ }
 {
     let n = known.len();
-    let mut k = [0u8; 4096];
-    let mut u = [0u8; 4096];
+    let mut k = [0u8; MOST_CLAIMS];
+    let mut u = [0u8; MOST_CLAIMS];
     evaluate_in(job, known, &mut k[..n], &mut u[..n], out);
 }
 
@@ -104,7 +120,7 @@ pub fn evaluate(job: &[u8], out: &mut [u8]) -> Check
             place: n,
         };
     }
-    let known = [0u8; 4096];
+    let known = [0u8; MOST_CLAIMS];
     evaluate_known(job, &known[..n], out);
     Check::Accepted
 }

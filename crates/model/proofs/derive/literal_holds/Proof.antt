@@ -1,32 +1,24 @@
-use Rattle.model.proofs.Firing.{holds-plain, holds-negated}
+-- `model::derive::literal_holds` meets its contract. By the literal's variant. Assumes nothing.
 use borrow.Author.Needs.{needs}
+use Rattle.model.proofs.Firing.{holds-plain, holds-negated}
 use Rattle.model.proofs.derive.literal_holds.Statement.{statement}
 use Rattle.model.proofs.derive.literal_holds.Tie as tie
-use Rattle.model.proofs.derive.literal_holds.Reads as reads
-use Rattle.model.proofs.derive.literal_holds.Lts as lts
-use Rattle.model.proofs.sets.member.Reads as member-reads
 
--- src/derive.rt:23:24
 enum-known-literal : tie.Need-enum-known-literal
 enum-known-literal c = search needs
 
--- src/derive.rt:23:30
 member-requires : tie.Need-member-requires
 member-requires c κs = search needs
 
--- src/derive.rt:24:26
 enum-known-literal-2 : tie.Need-enum-known-literal-2
 enum-known-literal-2 c = search needs
 
--- src/derive.rt:24:33
 member-requires-2 : tie.Need-member-requires-2
 member-requires-2 c κs = search needs
 
--- src/derive.rt:19:1
 returns : tie.Need-returns
 returns c = holds-plain _ _ _ _ _ (c .before .before .literal .given .1) (c .member .ensures)
 
--- src/derive.rt:19:1
 returns-2 : tie.Need-returns-2
 returns-2 c = holds-negated _ _ _ _ _ (c .before .before .literal2 .given .1) (c .member2 .ensures)
 

@@ -1,40 +1,32 @@
-use Rattle.model.proofs.Written.{written-verdicts}
-use Rattle.model.proofs.Rules.{claims-given}
+-- `model::evaluate::evaluate_in` meets its contract. The sets that `alternate` leaves are K and U. Assumes nothing.
 use mathlib.Core.Path.{_∙_}
 use borrow.Author.Needs.{needs}
+use Rattle.model.proofs.Written.{written-verdicts}
+use Rattle.model.proofs.Rules.{claims-given}
 use Rattle.model.proofs.evaluate.evaluate_in.Statement.{statement}
 use Rattle.model.proofs.evaluate.evaluate_in.Tie as tie
-use Rattle.model.proofs.evaluate.evaluate_in.Reads as reads
-use Rattle.model.proofs.evaluate.evaluate_in.Lts as lts
-use Rattle.model.proofs.evaluate.alternate.Reads as alternate-reads
-use Rattle.model.proofs.evaluate.write.Reads as write-reads
 
--- src/evaluate.rt:68:5
 alternate-requires : tie.Need-alternate-requires
 alternate-requires c κs = search needs
 
--- src/evaluate.rt:69:5
 write-requires : tie.Need-write-requires
 write-requires c κs = search needs
 
--- src/evaluate.rt:62:1
 same-length : tie.Need-same-length
 same-length c = search needs
 
--- src/evaluate.rt:62:1
 same-length-2 : tie.Need-same-length-2
 same-length-2 c = search needs
 
--- src/evaluate.rt:62:1
 same-length-3 : tie.Need-same-length-3
 same-length-3 c = search needs
 
--- src/evaluate.rt:62:1
 returns : tie.Need-returns
 returns c =
     let start = c .before .before .before .before .before .before .before .before .before .before .before .before .before .before .before .before .before .before in
     let a = c .before .before .before .before .before .before .before .before .before .before .alternate in
-    written-verdicts _ _ _ _ _ _ _ (claims-given _ (start .args .known .now)) (a .kept .1 .1 .0 ∙ start .pre .1 .0 .1) (a .ensures .0) (a .ensures .1) (c .before .before .write .ensures)
+    written-verdicts _ _ _ _ _ _ _ (claims-given _ (start .args .known .now)) (a .kept .1 .1 .0 ∙ start .pre .1 .0 .1)
+    (a .ensures .0) (a .ensures .1) (c .before .before .write .ensures)
 
 pub evaluate-in-spec : {M : Type 1} → statement M
 evaluate-in-spec =

@@ -1,4 +1,5 @@
--- `model::sets::copy` meets its contract. Assumes nothing.
+-- `model::sets::copy` meets its contract. The loop's invariant: the bytes below `i` are those of `s`. The measure is what is
+-- left of them. Assumes nothing.
 use Prim.Native.Nat.{ℕ, _-_, _≤_, _<_}
 use mathlib.Core.Path.{_≡_, refl}
 use native.Mathlib.Omega.{arith}
@@ -41,7 +42,9 @@ same-length : tie.Need-same-length Inv-loop μ-loop
 same-length c = c .before .loop .inv .1
 
 returns : tie.Need-returns Inv-loop μ-loop
-returns c = ext-getD 0 (c .before .loop .w) (c .before .before .args .s .now) (c .before .loop .inv .0) (λ k h. c .before .loop .inv .3 k (omega arith))
+returns c =
+    ext-getD 0 (c .before .loop .w) (c .before .before .args .s .now) (c .before .loop .inv .0)
+    (λ k h. c .before .loop .inv .3 k (omega arith))
 
 pub copy-spec : {M : Type 1} → statement M
 copy-spec =
