@@ -1,9 +1,13 @@
 pub mod Bools
 pub mod Compare
+pub mod Choose
 pub mod Span
 pub mod Members
+pub mod Lists
 pub mod Sets
 pub mod Search
 pub mod Sum
 pub mod Paths
 pub mod Acyclic
+pub mod Counts
+pub mod SumParts

@@ -1,0 +1,124 @@
+-- `table::checks::check_claim` meets its contract. Assumes nothing.
+use mathlib.Core.Path.{refl, _∙_}
+use native.Mathlib.Omega.{arith}
+use borrow.Author.Needs.{needs}
+use Rattle.job.proofs.Rows.{pass, stop}
+use Rattle.job.specs.Format.{jobOf}
+use Rattle.table.proofs.Marks.{mark-test, cursor-bad, cursor-good, number-test}
+use Rattle.table.specs.Ranges.{checkClaim}
+use Rattle.table.proofs.checks.check_claim.Statement.{statement}
+use Rattle.table.proofs.checks.check_claim.Tie as tie
+
+mark-at-requires : tie.Need-mark-at-requires
+unfolding jobOf
+mark-at-requires c κs = omega arith
+
+is-bad-mark-requires : tie.Need-is-bad-mark-requires
+is-bad-mark-requires c κs = search needs
+
+mul-bad-word : tie.Need-mul-bad-word
+mul-bad-word c = search needs
+
+add-bad-word : tie.Need-add-bad-word
+add-bad-word c = search needs
+
+bad-word-requires : tie.Need-bad-word-requires
+bad-word-requires c κs = search needs
+
+returns : tie.Need-returns
+unfolding checkClaim
+returns c =
+    let a = c .before .before .before .before .before .before .args in
+    let j = jobOf (a .job .now) in
+    let t = a .table .now in
+    c .bad-word .ensures ∙ stop _ _ _ _ (mark-test j t (a .c) (c .before .before .before .mark-at .ensures .value) (c .before .before .is-bad-mark .ensures) (c .before .if1 .taken))
+
+most-passed-requires : tie.Need-most-passed-requires
+most-passed-requires c κs = search needs
+
+cursor-at-requires : tie.Need-cursor-at-requires
+unfolding jobOf
+cursor-at-requires c κs = omega arith
+
+mul-bad-word-2 : tie.Need-mul-bad-word-2
+mul-bad-word-2 c = search needs
+
+add-bad-word-2 : tie.Need-add-bad-word-2
+add-bad-word-2 c = search needs
+
+bad-word-requires-2 : tie.Need-bad-word-requires-2
+bad-word-requires-2 c κs = search needs
+
+returns-2 : tie.Need-returns-2
+unfolding checkClaim
+returns-2 c =
+    let a = c .before .before .before .before .before .before .before .before .before .args in
+    let j = jobOf (a .job .now) in
+    let t = a .table .now in
+    let m = c .before .before .before .before .before .before .mark-at .ensures .value in
+    c .bad-word2 .ensures
+    ∙ pass _ _ _ _ (mark-test j t (a .c) m (c .before .before .before .before .before .is-bad-mark .ensures) (c .before .before .before .before .if1 .left))
+    (stop _ _ _ _ (cursor-bad j t (a .c) m (c .before .before .before .most-passed .ensures) (c .before .before .cursor-at .ensures .value) (c .before .if2 .taken)))
+
+number-at-requires : tie.Need-number-at-requires
+unfolding jobOf
+number-at-requires c κs = omega arith
+
+is-bad-number-requires : tie.Need-is-bad-number-requires
+is-bad-number-requires c κs = search needs
+
+mul-bad-word-3 : tie.Need-mul-bad-word-3
+mul-bad-word-3 c = search needs
+
+add-bad-word-3 : tie.Need-add-bad-word-3
+add-bad-word-3 c = search needs
+
+bad-word-requires-3 : tie.Need-bad-word-requires-3
+bad-word-requires-3 c κs = search needs
+
+returns-3 : tie.Need-returns-3
+unfolding checkClaim
+returns-3 c =
+    let a = c .before .before .before .before .before .before .before .before .before .before .before .before .args in
+    let j = jobOf (a .job .now) in
+    let t = a .table .now in
+    let m = c .before .before .before .before .before .before .before .before .before .mark-at .ensures .value in
+    c .bad-word3 .ensures
+    ∙ pass _ _ _ _ (mark-test j t (a .c) m (c .before .before .before .before .before .before .before .before .is-bad-mark .ensures) (c .before .before .before .before .before .before .before .if1 .left))
+    (pass _ _ _ _ (cursor-good j t (a .c) m (c .before .before .before .before .before .before .most-passed .ensures) (c .before .before .before .before .before .cursor-at .ensures .value) (c .before .before .before .before .if2 .left))
+    (stop _ _ _ _ (number-test j t (a .c) m (c .before .before .before .number-at .ensures .value) (c .before .before .is-bad-number .ensures) (c .before .if3 .taken))))
+
+returns-4 : tie.Need-returns-4
+unfolding checkClaim
+returns-4 c =
+    let a = c .before .before .before .before .before .before .before .before .before .before .before .args in
+    let j = jobOf (a .job .now) in
+    let t = a .table .now in
+    let m = c .before .before .before .before .before .before .before .before .mark-at .ensures .value in
+    pass _ _ _ _ (mark-test j t (a .c) m (c .before .before .before .before .before .before .before .is-bad-mark .ensures) (c .before .before .before .before .before .before .if1 .left))
+    (pass _ _ _ _ (cursor-good j t (a .c) m (c .before .before .before .before .before .most-passed .ensures) (c .before .before .before .before .cursor-at .ensures .value) (c .before .before .before .if2 .left))
+    (pass _ _ _ _ (number-test j t (a .c) m (c .before .before .number-at .ensures .value) (c .before .is-bad-number .ensures) (c .if3 .left)) refl))
+
+pub check-claim-spec : {M : Type 1} → statement M
+check-claim-spec =
+    tie.close
+    (tie.spec
+    mark-at-requires
+    is-bad-mark-requires
+    mul-bad-word
+    add-bad-word
+    bad-word-requires
+    returns
+    most-passed-requires
+    cursor-at-requires
+    mul-bad-word-2
+    add-bad-word-2
+    bad-word-requires-2
+    returns-2
+    number-at-requires
+    is-bad-number-requires
+    mul-bad-word-3
+    add-bad-word-3
+    bad-word-requires-3
+    returns-3
+    returns-4)

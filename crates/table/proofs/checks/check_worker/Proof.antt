@@ -1,0 +1,114 @@
+-- `table::checks::check_worker` meets its contract. Assumes nothing.
+use mathlib.Core.Path.{refl, _∙_}
+use native.Mathlib.Omega.{arith}
+use borrow.Author.Needs.{needs}
+use Rattle.job.proofs.Rows.{pass, stop, placed}
+use Rattle.job.specs.Format.{jobOf}
+use Rattle.table.proofs.Sizes.{word-bad, word-good}
+use Rattle.table.specs.Ranges.{checkWorker}
+use Rattle.table.proofs.checks.check_worker.Statement.{statement}
+use Rattle.table.proofs.checks.check_worker.Tie as tie
+
+claim-count-requires : tie.Need-claim-count-requires
+claim-count-requires c κs = search needs
+
+awaited-at-requires : tie.Need-awaited-at-requires
+unfolding jobOf
+awaited-at-requires c κs = omega arith
+
+mul-bad-word : tie.Need-mul-bad-word
+mul-bad-word c = search needs
+
+add-bad-word : tie.Need-add-bad-word
+add-bad-word c = search needs
+
+mul-bad-word-2 : tie.Need-mul-bad-word-2
+mul-bad-word-2 c = search needs
+
+add-bad-word-2 : tie.Need-add-bad-word-2
+add-bad-word-2 c = search needs
+
+bad-word-requires : tie.Need-bad-word-requires
+bad-word-requires c κs = search needs
+
+returns : tie.Need-returns
+unfolding checkWorker jobOf
+returns c =
+    let t = c .before .before .before .before .before .before .args .table .now in
+    placed (c .bad-word .ensures) (omega arith)
+    ∙ stop _ _ _ _ (word-bad t (omega arith) (c .before .before .awaited-at .ensures .value) (c .before .before .before .claim-count .ensures .value) (c .before .if1 .taken))
+
+mul-wide : tie.Need-mul-wide
+mul-wide c = search needs
+
+element-copy-out-wide : tie.Need-element-copy-out-wide
+element-copy-out-wide c = search needs
+
+wide-requires : tie.Need-wide-requires
+wide-requires c κs = search needs
+
+answered-at-requires : tie.Need-answered-at-requires
+unfolding jobOf
+answered-at-requires c κs = omega arith
+
+mul-bad-word-3 : tie.Need-mul-bad-word-3
+mul-bad-word-3 c = search needs
+
+add-bad-word-3 : tie.Need-add-bad-word-3
+add-bad-word-3 c = search needs
+
+mul-bad-word-4 : tie.Need-mul-bad-word-4
+mul-bad-word-4 c = search needs
+
+add-bad-word-4 : tie.Need-add-bad-word-4
+add-bad-word-4 c = search needs
+
+add-bad-word-5 : tie.Need-add-bad-word-5
+add-bad-word-5 c = search needs
+
+bad-word-requires-2 : tie.Need-bad-word-requires-2
+bad-word-requires-2 c κs = search needs
+
+returns-2 : tie.Need-returns-2
+unfolding checkWorker jobOf
+returns-2 c =
+    let b = c .before .before .before .before .before .before .before .before .before .before in
+    let t = b .args .table .now in
+    let n = c .before .before .before .wide .ensures .value ∙ b .pre .1 .0 (b .args .w) (omega arith) in
+    placed (c .bad-word2 .ensures) (omega arith)
+    ∙ pass _ _ _ _ (word-good t (omega arith) (c .before .before .before .before .before .before .awaited-at .ensures .value) (c .before .before .before .before .before .before .before .claim-count .ensures .value) (c .before .before .before .before .before .if1 .left))
+    (stop _ _ _ _ (word-bad t (omega arith) (c .before .before .answered-at .ensures .value) n (c .before .if2 .taken)))
+
+returns-3 : tie.Need-returns-3
+unfolding checkWorker jobOf
+returns-3 c =
+    let b = c .before .before .before .before .before .before .before .before .before in
+    let t = b .args .table .now in
+    let n = c .before .before .wide .ensures .value ∙ b .pre .1 .0 (b .args .w) (omega arith) in
+    pass _ _ _ _ (word-good t (omega arith) (c .before .before .before .before .before .awaited-at .ensures .value) (c .before .before .before .before .before .before .claim-count .ensures .value) (c .before .before .before .before .if1 .left))
+    (pass _ _ _ _ (word-good t (omega arith) (c .before .answered-at .ensures .value) n (c .if2 .left)) refl)
+
+pub check-worker-spec : {M : Type 1} → statement M
+check-worker-spec =
+    tie.close
+    (tie.spec
+    claim-count-requires
+    awaited-at-requires
+    mul-bad-word
+    add-bad-word
+    mul-bad-word-2
+    add-bad-word-2
+    bad-word-requires
+    returns
+    mul-wide
+    element-copy-out-wide
+    wide-requires
+    answered-at-requires
+    mul-bad-word-3
+    add-bad-word-3
+    mul-bad-word-4
+    add-bad-word-4
+    add-bad-word-5
+    bad-word-requires-2
+    returns-2
+    returns-3)

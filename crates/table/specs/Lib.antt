@@ -1,0 +1,5 @@
+pub mod Questions
+pub mod Layout
+pub mod Ranges
+pub mod Start
+pub mod Reading

@@ -1,0 +1,33 @@
+-- A worker's questions (01, 'Job bytes': "A worker's questions are put in file order").
+--   positionsOf qs k w   where w's questions stand in qs, whose first is at position k
+--   askedBy j w          the positions in the file of w's questions, in order
+--   Counted j ns         the numbers ns say how many questions each worker has
+--   claimAsked qs k      the claim of question k
+--   questionClaim j w n  the claim of w's question n, from 0
+use Prim.Native.Nat.{ℕ, zero, suc, _<_}
+use mathlib.Core.Path.{_≡_}
+use mathlib.Core.List.{List, [], _∷_}
+use lib.Dec.{eqb}
+use lib.ListN.{length, getD}
+use Rattle.base.specs.Choose.{pick}
+use Rattle.job.specs.Job.{Job}
+use Rattle.job.specs.declared.Question.{Question}
+
+unfoldable pub positionsOf : List Question → ℕ → ℕ → List ℕ
+unfolding pick
+positionsOf [] k w = []
+positionsOf (q ∷ qs) k w = pick (eqb (q .worker) w) (k ∷ positionsOf qs (suc k) w) (positionsOf qs (suc k) w)
+
+unfoldable pub askedBy : Job → ℕ → List ℕ
+askedBy j w = positionsOf (j .questions) 0 w
+
+abbrev pub Counted : Job → List ℕ → Type 0
+Counted j ns = (w : ℕ) → w < j .workers → getD ns w 0 ≡ length (askedBy j w)
+
+unfoldable pub claimAsked : List Question → ℕ → ℕ
+claimAsked [] k = 0
+claimAsked (q ∷ qs) zero = q .claim
+claimAsked (q ∷ qs) (suc k) = claimAsked qs k
+
+unfoldable pub questionClaim : Job → ℕ → ℕ → ℕ
+questionClaim j w n = claimAsked (j .questions) (getD (askedBy j w) n 0)

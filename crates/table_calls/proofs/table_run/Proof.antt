@@ -1,0 +1,43 @@
+-- `table_calls::table_run` meets its contract. Assumes nothing.
+use mathlib.Core.Path.{_∙_, ap}
+use borrow.Author.Needs.{needs}
+use Rattle.turns.specs.declared.RunAnswer.{RunAnswer}
+use Rattle.turns.specs.Calls.{runAnswer}
+use Rattle.table_calls.specs.Numbers.{ofCheck, copied}
+use Rattle.table_calls.proofs.table_run.Statement.{statement}
+use Rattle.table_calls.proofs.table_run.Tie as tie
+
+run-requires : tie.Need-run-requires
+run-requires c κs = search needs
+
+copy-counts-requires : tie.Need-copy-counts-requires
+copy-counts-requires c κs = search needs
+
+of-check-requires : tie.Need-of-check-requires
+of-check-requires c κs = search needs
+
+same-length : tie.Need-same-length
+same-length c = search needs
+
+same-length-2 : tie.Need-same-length-2
+same-length-2 c = search needs
+
+returns : tie.Need-returns
+unfolding runAnswer
+returns c =
+    let a = c .before .before .before .before .before .before .before .before .before .before .before .before .before .before .before .args in
+    let e = c .before .before .before .before .before .before .before .before .before .run .ensures .0 in (
+      c .of-check .ensures ∙ ap (λ (r : RunAnswer). ofCheck (r .check)) e,
+      (c .before .before .before .before .before .before .before .before .before .run .ensures .1, c .before .before .before .copy-counts .ensures ∙ ap (λ (r : RunAnswer). copied (r .tally) (a .tally .now)) e),
+    )
+
+pub table-run-spec : {M : Type 1} → statement M
+table-run-spec =
+    tie.close
+    (tie.spec
+    run-requires
+    copy-counts-requires
+    of-check-requires
+    same-length
+    same-length-2
+    returns)

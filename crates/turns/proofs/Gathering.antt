@@ -1,0 +1,257 @@
+-- The loop of `gather`: a worklist that holds all that is reached and not yet looked at. Assumes nothing.
+--   passed-met        the literals that a claim has passed, as the index and the table's cursor give them
+--   passed-room       meeting their claims stays within job, table and stack
+--   leads-low         what a claim leads to is a claim
+--   Gathering         what the loop keeps, with its laws: gathering-start, -more, -less, -done
+use Prim.Native.Nat.{ℕ, zero, suc, _+_, _*_, _-_, _≤_, _<_}
+use mathlib.Core.Path.{_≡_, refl, sym, _∙_, ap, ap₂, subst, subst⁻¹}
+use mathlib.Core.Bool.{not}
+use mathlib.Core.List.{List, [], _∷_, map}
+use mathlib.Core.Logic.{by-cases}
+use native.Mathlib.Omega.{arith}
+use native.Mathlib.Decide.{ℕ-discrete, decLt}
+use lib.Dec.{T, eqb}
+use lib.ListN.{length, getD, set, take, length-set, List·getD-eq-default}
+use lib.Seq.{getD-set-same}
+use Rattle.base.specs.Graph.{Reach, here}
+use Rattle.base.specs.Lists.{isIn}
+use Rattle.base.specs.Sets.{count}
+use Rattle.base.specs.Span.{span}
+use Rattle.base.proofs.Bools.{same}
+use Rattle.base.proofs.Lists.{In, in-head, in-tail, InCons, first, later, in-cases, in-nil, in-keep, keep-in}
+use Rattle.base.proofs.Paths.{trans, one, stays}
+use Rattle.base.proofs.Sets.{count-le, count-mono, count-less}
+use Rattle.base.proofs.Span.{map-span}
+use Rattle.job.specs.Job.{claimOf}
+use Rattle.job.specs.Format.{claims, rules, literals, literalAt, jobOf}
+use Rattle.job.specs.Accepted.{WellFormed}
+use Rattle.job.specs.Claims.{claimStart}
+use Rattle.job.specs.declared.Cursor.{Cursor}
+use Rattle.job.proofs.Contiguous.{claim-literals}
+use Rattle.model.specs.Passes.{setOf}
+use Rattle.model.proofs.Bytes.{cleared-none}
+use Rattle.table.specs.Layout.{cursor, complete}
+use Rattle.turns.specs.Turn.{lits, leads, reached}
+use Rattle.turns.specs.Ready.{Ready}
+use Rattle.turns.specs.Gather.{Work, visits, met, Fits, Room}
+use Rattle.turns.proofs.Reached.{Leads, reached-in, in-reached}
+use Rattle.turns.proofs.Worklist.{set-there, set-other, Stands, at, Was, before, new, Grown, grown-fits, visits-grown}
+
+-- lists
+take-span : (f : ℕ → ℕ) (a n k : ℕ) → k ≤ n → take k (span f a n) ≡ span f a k
+unfolding span
+take-span f a n zero h = refl
+take-span f a zero (suc k) h = absurd (omega arith)
+take-span f a (suc n) (suc k) h = ap (λ (x : List ℕ). f a ∷ x) (take-span f (suc a) n k (omega arith))
+
+in-take : (n : ℕ) (s : List ℕ) (d : ℕ) → In d (take n s) → In d s
+in-take zero s d i = absurd (in-nil d i)
+in-take (suc n) [] d i = absurd (in-nil d i)
+in-take (suc n) (x ∷ s) d i = go (in-take n s d) (in-cases d x (take n s) i)
+  where
+    go : (In d (take n s) → In d s) → InCons d x (take n s) → In d (x ∷ s)
+    go ih (first e) = rw e (in-head x s)
+    go ih (later m) = in-tail d x s (ih m)
+
+span-each : (P : ℕ → Type 0) (f : ℕ → ℕ) (a n : ℕ) → ((i : ℕ) → a ≤ i → i < a + n → P (f i)) → (d : ℕ) → In d (span f a n) → P d
+unfolding span
+span-each P f a zero h d i = absurd (in-nil d i)
+span-each P f a (suc n) h d i = go (span-each P f (suc a) n (λ k g l. h k (omega arith) (omega arith)) d) (in-cases d (f a) (span f (suc a) n) i)
+  where
+    go : (In d (span f (suc a) n) → P d) → InCons d (f a) (span f (suc a) n) → P d
+    go ih (first e) = rw e (h a (omega arith) (omega arith))
+    go ih (later m) = ih m
+
+-- what is in a set has a byte
+seen-low : (w : List ℕ) (d : ℕ) → T (setOf w d) → d < length w
+unfolding setOf
+seen-low w d h =
+    by-cases (decLt d (length w)) (λ l. l)
+    (λ n. absurd (subst (λ (x : ℕ). T (not (eqb x 0))) (List·getD-eq-default w 0 (omega arith)) h))
+
+pub job-claims : (s : List ℕ) → jobOf s .claims ≡ claims s
+unfolding jobOf
+job-claims s = refl
+
+-- the claims of a claim's literals
+lits-span : (s : List ℕ) → WellFormed s → (c : ℕ) → lits (jobOf s) c ≡ span (λ i. claimOf (literalAt s (rules s) i)) (claimStart s c) (claimStart s (c + 1) - claimStart s c)
+unfolding lits
+lits-span s w c = ap (map claimOf) (claim-literals s w c .part) ∙ map-span claimOf (literalAt s (rules s)) (claimStart s c) (claimStart s (c + 1) - claimStart s c)
+
+lits-low : (s : List ℕ) → WellFormed s → (c d : ℕ) → In d (lits (jobOf s) c) → d < claims s
+lits-low s w c d i =
+    let p = claim-literals s w c in
+    span-each (λ x. x < claims s) (λ k. claimOf (literalAt s (rules s) k)) (claimStart s c) (claimStart s (c + 1) - claimStart s c)
+    (λ k a l. w .literal k (omega (arith, p .within, p .ordered))) d (subst (In d) (lits-span s w c) i)
+
+leads-parts : (s t : List ℕ) (c d : ℕ) → Leads (jobOf s) t c d → In d (take (cursor t c) (lits (jobOf s) c)) × T (not (complete t d))
+unfolding leads
+leads-parts s t c d l = keep-in (λ d. not (complete t d)) d (take (cursor t c) (lits (jobOf s) c)) (l .leads-in)
+
+leads-of : (s t : List ℕ) (c d : ℕ) → In d (take (cursor t c) (lits (jobOf s) c)) → T (not (complete t d)) → Leads (jobOf s) t c d
+unfolding leads
+leads-of s t c d i n = record { leads-in = in-keep (λ d. not (complete t d)) d (take (cursor t c) (lits (jobOf s) c)) i n }
+
+taken-low : (s t : List ℕ) → WellFormed s → (c d : ℕ) → In d (take (cursor t c) (lits (jobOf s) c)) → d < claims s
+taken-low s t w c d i = lits-low s w c d (in-take (cursor t c) (lits (jobOf s) c) d i)
+
+pub leads-low : (s t : List ℕ) → WellFormed s → (c d : ℕ) → Leads (jobOf s) t c d → d < jobOf s .claims
+leads-low s t w c d l = omega (arith, job-claims s, taken-low s t w c d (leads-parts s t c d l .0))
+
+-- the cursor over what claim d has passed
+abbrev pub passedCursor : List ℕ → List ℕ → ℕ → Cursor
+passedCursor index t d = record { at = getD index d 0; end = getD index d 0 + cursor t d }
+
+module _ (s index t : List ℕ) (r : Ready s index t) (d : ℕ) (l : d < claims s) where
+  pub passed-from : getD index d 0 ≡ claimStart s d
+  passed-from = r .indexed d (omega arith)
+
+  pub passed-few : d < 4096
+  passed-few = omega (arith, r .job .sized .claimsMost)
+
+  pub passed-words : 10 + 3 * d < length t
+  passed-words = omega (arith, r .table .room, job-claims s)
+
+  passed-most : cursor t d ≤ claimStart s (d + 1) - claimStart s d
+  passed-most = omega (arith, r .table .claim d (omega (arith, job-claims s)) .read, claim-literals s (r .job) d .count)
+
+  pub passed-start : getD index d 0 ≤ 16384
+  passed-start =
+      let p = claim-literals s (r .job) d in
+      omega (arith, passed-from, p .within, p .ordered, r .job .sized .literalsMost)
+
+  module _ (m : ℕ) (e : m ≡ rules s) (c : Cursor) (q : c ≡ passedCursor index t d) where
+    pub passed-met : met s m c ≡ take (cursor t d) (lits (jobOf s) d)
+    passed-met =
+        let z : getD index d 0 + cursor t d - getD index d 0 ≡ cursor t d = omega arith in
+        ap₂ (met s) e q
+        ∙ (ap₂ (span (λ k. claimOf (literalAt s (rules s) k))) passed-from z
+        ∙ (sym (take-span (λ k. claimOf (literalAt s (rules s) k)) (claimStart s d) (claimStart s (d + 1) - claimStart s d) (cursor t d) passed-most)
+        ∙ ap (take (cursor t d)) (sym (lits-span s (r .job) d))))
+
+    pub passed-room : (n : ℕ) (k : Work) → n ≡ claims s → Fits (claims s) k → Room s m t n c k
+    passed-room n k i f =
+        let p = claim-literals s (r .job) d in
+        let z = r .job .sized .size in
+        let a = ap (λ (x : Cursor). x .at) q in
+        let b = ap (λ (x : Cursor). x .end) q in
+        record {
+          bytes = omega (arith, p .within, p .ordered, passed-most, passed-from);
+          below = λ k g h. subst⁻¹ (λ (x : ℕ). claimOf (literalAt s m k) < x) i (subst⁻¹ (λ (x : ℕ). claimOf (literalAt s x k) < claims s) e (r .job .literal k (omega (arith, p .within, p .ordered, passed-most, passed-from))));
+          words = omega (arith, r .table .room, job-claims s);
+          fits = subst⁻¹ (λ (x : ℕ). Fits x k) i f;
+        }
+
+-- a claim of the set stands on the stack, or all that it leads to is in the set
+pub data Looked (s t : List ℕ) (k : Work) (d : ℕ) : Type 0 where
+  waits : Stands k d → Looked s t k d
+  closed : ((e : ℕ) → Leads (jobOf s) t d e → T (setOf (k .seen) e)) → Looked s t k d
+
+pub record Gathering (s t : List ℕ) (claim : ℕ) (k : Work) : Type 0 where
+  pub fits : Fits (claims s) k
+  pub start : T (setOf (k .seen) claim)
+  pub sound : (d : ℕ) → T (setOf (k .seen) d) → Reach (Leads (jobOf s) t) claim d
+  pub stacked : (i : ℕ) → i < k .top → T (setOf (k .seen) (getD (k .stack) i 0))
+  pub looked : (d : ℕ) → T (setOf (k .seen) d) → Looked s t k d
+
+pub gathering-top : {s t : List ℕ} {claim : ℕ} {k : Work} → Gathering s t claim k → k .top ≤ 4096
+gathering-top {s} {t} {claim} {k} g = omega (arith, g .fits .few, g .fits .most, count-le (setOf (k .seen)) (claims s))
+
+abbrev pub left : List ℕ → Work → ℕ
+left s k = 2 * (claims s - count (setOf (k .seen)) (claims s)) + k .top
+
+-- the claim alone, in a set that was cleared
+pub gathering-start : (s t : List ℕ) (claim : ℕ) (w st : List ℕ) → WellFormed s → ((d : ℕ) → getD w d 0 ≡ 0) → length w ≡ claims s → claim < claims s → length st ≡ 4096 → Gathering s t claim (record { seen = set w claim 1; stack = set st 0 claim; top = 1 })
+gathering-start s t claim w st f zeros long l deep =
+    let inside : claim < length w = omega arith in
+    let there = set-there w claim inside in
+    let alone : (d : ℕ) → T (setOf (set w claim 1) d) → d ≡ claim =
+    λ d h. by-cases (ℕ-discrete d claim) (λ e. e) (λ n. absurd (cleared-none w zeros d (subst T (set-other w claim d n) h))) in
+    let top : getD (set st 0 claim) 0 0 ≡ claim = getD-set-same st 0 claim 0 (omega arith) in
+    record {
+      fits = record {
+        few = f .sized .claimsMost;
+        long = length-set w claim 1 ∙ long;
+        wide = omega (arith, f .sized .claimsMost, length-set st 0 claim);
+        most = omega (arith, count-less (setOf w) (setOf (set w claim 1)) (λ d h. absurd (cleared-none w zeros d h)) (claims s) claim l there (cleared-none w zeros claim));
+      };
+      start = there;
+      sound = λ d h. rw (alone d h) here;
+      stacked = λ i h.
+          let z : i ≡ 0 = omega arith in
+          subst⁻¹ (λ (x : ℕ). T (setOf (set w claim 1) x)) (ap (λ (x : ℕ). getD (set st 0 claim) x 0) z ∙ top) there;
+      looked = λ d h. waits (at 0 (omega arith) (top ∙ sym (alone d h)));
+    }
+
+-- a claim d taken off the stack, and the claims met whose literals it has passed
+module _ (s index t : List ℕ) (r : Ready s index t) (claim : ℕ) (k : Work) (g : Gathering s t claim k) (some : 0 < k .top) (d : ℕ) (e : d ≡ getD (k .stack) (k .top - 1) 0) where
+  abbrev popped : Work
+  popped = record { seen = k .seen; stack = k .stack; top = k .top - 1 }
+
+  pub next-seen : T (setOf (k .seen) d)
+  next-seen = subst⁻¹ (λ (x : ℕ). T (setOf (k .seen) x)) e (g .stacked (k .top - 1) (omega arith))
+
+  pub next-low : d < claims s
+  next-low = omega (arith, seen-low (k .seen) d next-seen, g .fits .long)
+
+  pub next-fits : Fits (claims s) popped
+  next-fits = record { few = g .fits .few; long = g .fits .long; wide = g .fits .wide; most = omega (arith, g .fits .most) }
+
+  module _ (m : ℕ) (i : m ≡ rules s) (c : Cursor) (q : c ≡ passedCursor index t d) (k′ : Work) (v : visits t (met s m c) popped ≡ k′) where
+    abbrev taken : List ℕ
+    taken = take (cursor t d) (lits (jobOf s) d)
+
+    grown : Grown t (claims s) taken popped k′
+    grown =
+        subst (λ (x : Work). Grown t (claims s) taken popped x) (ap (λ (bs : List ℕ). visits t bs popped) (sym (passed-met s index t r d next-low m i c q)) ∙ v)
+        (visits-grown t (claims s) taken popped next-fits (λ b h. taken-low s t (r .job) d b h))
+
+    found : (b : ℕ) → Was t taken popped k′ b → Reach (Leads (jobOf s) t) claim b
+    found b (before h) = g .sound b h
+    found b (new h n x) = trans (g .sound d next-seen) (one (leads-of s t d b h n))
+
+    shut : (x : ℕ) → x ≡ d → (b : ℕ) → Leads (jobOf s) t x b → T (setOf (k′ .seen) b)
+    shut x z b y = let p = leads-parts s t d b (rw z at y) in grown .met b (p .0) (p .1)
+
+    still : (b : ℕ) → Looked s t k b → Looked s t k′ b
+    still b (closed f) = closed (λ x y. grown .keeps x (f x y))
+    still b (waits (at j h z)) =
+        by-cases (decLt j (k .top - 1)) (λ l. waits (at j (omega (arith, grown .higher)) (grown .below j l ∙ z)))
+        (λ n. let y : j ≡ k .top - 1 = omega arith in closed (shut b (sym z ∙ (ap (λ (x : ℕ). getD (k .stack) x 0) y ∙ sym e))))
+
+    looks : (b : ℕ) → Was t taken popped k′ b → Looked s t k′ b
+    looks b (before h) = still b (g .looked b h)
+    looks b (new h n x) = waits x
+
+    pub gathering-more : Gathering s t claim k′
+    gathering-more =
+        record {
+          fits = grown-fits t (claims s) taken popped k′ next-fits grown;
+          start = grown .keeps claim (g .start);
+          sound = λ b h. found b (grown .was b h);
+          stacked = λ j h.
+              by-cases (decLt j (k .top - 1))
+              (λ l. subst⁻¹ (λ (x : ℕ). T (setOf (k′ .seen) x)) (grown .below j l) (grown .keeps _ (g .stacked j (omega arith))))
+              (λ n. grown .stacked j (omega arith) h);
+          looked = λ b h. looks b (grown .was b h);
+        }
+
+    pub gathering-less : left s k′ < left s k
+    gathering-less =
+        omega (arith, grown .counted, count-mono (setOf (k .seen)) (setOf (k′ .seen)) (grown .keeps) (claims s), count-le (setOf (k′ .seen)) (claims s))
+
+-- with nothing on the stack the set is closed and holds the claim: it is what is reached
+module _ (s index t : List ℕ) (r : Ready s index t) (claim : ℕ) (l : claim < claims s) (k : Work) (g : Gathering s t claim k) (none : k .top ≤ 0) where
+  shut-all : (x y : ℕ) → Leads (jobOf s) t x y → T (setOf (k .seen) x) → T (setOf (k .seen) y)
+  shut-all x y h z = go (g .looked x z)
+    where
+      go : Looked s t k x → T (setOf (k .seen) y)
+      go (closed f) = f y h
+      go (waits (at i b e)) = absurd (omega arith)
+
+  pub gathering-done : (d : ℕ) → setOf (k .seen) d ≡ isIn d (reached (jobOf s) t claim)
+  gathering-done d =
+      let low = leads-low s t (r .job) in
+      let inside : claim < jobOf s .claims = omega (arith, job-claims s) in
+      same (setOf (k .seen) d) (isIn d (reached (jobOf s) t claim)) (λ h. reached-in (jobOf s) t low claim inside d (g .sound d h))
+      (λ h. stays (λ x. T (setOf (k .seen) x)) shut-all (in-reached (jobOf s) t low claim inside d h) (g .start))

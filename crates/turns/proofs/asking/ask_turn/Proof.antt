@@ -1,0 +1,63 @@
+-- `turns::asking::ask_turn` meets its contract. Assumes nothing.
+use mathlib.Core.Path.{sym, _∙_}
+use native.Mathlib.Omega.{arith}
+use borrow.Author.Needs.{needs}
+use Rattle.job.specs.Format.{jobOf}
+use Rattle.turns.proofs.PutQuestion.{puts-none}
+use Rattle.turns.proofs.Following.{room, answered-read}
+use Rattle.turns.proofs.asking.ask_turn.Statement.{statement}
+use Rattle.turns.proofs.asking.ask_turn.Tie as tie
+
+claim-count-requires : tie.Need-claim-count-requires
+claim-count-requires c κs = search needs
+
+answered-at-requires : tie.Need-answered-at-requires
+answered-at-requires c κs = omega (arith, room (c .before .before .before .before .args .job .now) (c .before .before .before .before .args .table .now) (c .before .before .before .before .pre .1), c .before .before .before .before .pre .2)
+
+next-question-requires : tie.Need-next-question-requires
+next-question-requires c κs = search needs
+
+enum-known-next : tie.Need-enum-known-next
+enum-known-next c = search needs
+
+ask-requires : tie.Need-ask-requires
+ask-requires c κs =
+    let s = c .before .before .before .before .before .before .before .before .before .before .args .job .now in
+    let t = c .before .before .before .before .before .before .before .before .before .before .args .table .now in
+    let e = c .before .before .next .given .1 in (
+      c .before .before .before .before .before .before .before .before .before .before .pre,
+      (answered-read s t (c .before .before .before .before .before .before .before .before .before .before .args .w) (c .before .before .before .before .before .before .before .claim-count .ensures .value) (c .before .before .before .before .before .answered-at .ensures .value), c .before .before .before .before .next-question .ensures .1 _ e, sym e ∙ c .before .before .before .before .next-question .ensures .0),
+    )
+
+enum-told : tie.Need-enum-told
+enum-told c = search needs
+
+same-length : tie.Need-same-length
+same-length c = search needs
+
+returns : tie.Need-returns
+returns c = search needs
+
+same-length-2 : tie.Need-same-length-2
+same-length-2 c = search needs
+
+returns-2 : tie.Need-returns-2
+returns-2 c =
+    let s = c .before .before .before .before .before .before .before .before .args .job .now in
+    let t = c .before .before .before .before .before .before .before .before .args .table .now in
+    puts-none (jobOf s) t (c .before .before .before .before .before .before .before .before .args .w) _ (answered-read s t (c .before .before .before .before .before .before .before .before .args .w) (c .before .before .before .before .before .claim-count .ensures .value) (c .before .before .before .answered-at .ensures .value)) (sym (c .enum-told .given .1) ∙ c .before .before .next-question .ensures .0)
+
+pub ask-turn-spec : {M : Type 1} → statement M
+ask-turn-spec =
+    tie.close
+    (tie.spec
+    claim-count-requires
+    answered-at-requires
+    next-question-requires
+    enum-known-next
+    ask-requires
+    enum-told
+    same-length
+    returns
+    same-length-2
+    returns-2)

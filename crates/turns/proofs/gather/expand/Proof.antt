@@ -1,0 +1,89 @@
+-- `turns::gather::expand` meets its contract. The loop's invariant, `Expanding` (proofs/Worklist): there is room for what is still to be met, and
+-- meeting the claims that the cursor has left makes of the worklist now what meeting all of them makes of the one at entry.
+-- The measure is what the cursor has left. Assumes nothing.
+use Prim.Native.Nat.{_<_, _-_}
+use mathlib.Core.Path.{_≡_, sym, _∙_, ap}
+use native.Mathlib.Omega.{arith}
+use borrow.Author.Tests.{leb-false, leb-true, not-true, not-false}
+use Rattle.job.specs.declared.Cursor.{Cursor}
+use Rattle.job.specs.Format.{literalAt}
+use Rattle.job.specs.Job.{claimOf}
+use Rattle.turns.proofs.Worklist.{Expanding, expanding-start, expanding-below, expanding-fits, expanding-more, expanding-done}
+use Rattle.turns.proofs.gather.expand.Statement.{statement}
+use Rattle.turns.proofs.gather.expand.Tie as tie
+
+abbrev Inv-loop : tie.InvT-loop
+Inv-loop job table rules seen₀ stack₀ bottom cursor₀ top₀ seen stack cursor top =
+    Expanding job rules table cursor₀ (record { seen = seen₀; stack = stack₀; top = top₀ }) cursor (record { seen = seen; stack = stack; top = top })
+
+abbrev μ-loop : tie.MeasureT-loop
+μ-loop job table rules seen₀ stack₀ bottom cursor₀ top₀ seen stack cursor top = cursor .end - cursor .at
+
+-- a literal is left
+left : (c : tie.Then1 Inv-loop μ-loop) → c .before .before .loop .cursor .at < c .before .before .loop .cursor .end
+left c = leb-false _ _ (sym (c .before .at-end .ensures) ∙ not-true _ (c .if1 .taken))
+
+-- the claim met is the current literal's
+meets : (c : tie.After-claim-of Inv-loop μ-loop) → c .claim-of .result ≡ claimOf (literalAt (c .before .before .before .before .before .before .before .before .before .args .job .now) (c .before .before .before .before .before .before .before .before .before .args .rules) (c .before .before .before .before .loop .cursor .at))
+meets c = c .claim-of .ensures ∙ ap claimOf (c .before .current .ensures)
+
+loop-holds : tie.Need-loop-holds Inv-loop μ-loop
+loop-holds c = expanding-start (c .before .before .before .before .pre)
+
+at-end-requires : tie.Need-at-end-requires Inv-loop μ-loop
+at-end-requires c κs = tt
+
+current-requires : tie.Need-current-requires Inv-loop μ-loop
+current-requires c κs = omega (arith, left c, c .before .before .loop .inv .room .bytes)
+
+claim-of-requires : tie.Need-claim-of-requires Inv-loop μ-loop
+claim-of-requires c κs = tt
+
+visit-requires : tie.Need-visit-requires Inv-loop μ-loop
+visit-requires c κs =
+    let a = c .before .before in
+    let x = a .before .before .before .before .loop .inv in
+    let e = meets a in
+    (omega (arith, e, expanding-below _ _ _ _ _ _ _ x (left (a .before .before))), omega (arith, x .room .words, x .room .fits .long), expanding-fits _ _ _ _ _ _ _ x)
+
+advanced-requires : tie.Need-advanced-requires Inv-loop μ-loop
+advanced-requires c κs = left (c .before .before .before .before .before .before .before .before .before)
+
+loop-less : tie.Need-loop-less Inv-loop μ-loop
+loop-less c =
+    let e = ap (λ (x : Cursor). x .at) (c .advanced .ensures) in
+    let z = ap (λ (x : Cursor). x .end) (c .advanced .ensures) in
+    omega (arith, e, z, left (c .before .before .before .before .before .before .before .before .before .before))
+
+loop-again : tie.Need-loop-again Inv-loop μ-loop
+loop-again c =
+    let a = c .before .before .before .before .before .before .before .before in
+    let l = a .before .before .before .before .loop in
+    expanding-more _ _ _ _ _ _ _ (l .inv) _ _ _ (left (a .before .before)) (meets a) (c .before .before .before .before .before .visit .ensures) (c .advanced .ensures)
+
+same-length : tie.Need-same-length Inv-loop μ-loop
+same-length c = c .before .before .loop .inv .room .fits .long
+
+same-length-2 : tie.Need-same-length-2 Inv-loop μ-loop
+same-length-2 c = c .before .before .loop .inv .deep
+
+returns : tie.Need-returns Inv-loop μ-loop
+returns c = expanding-done _ _ _ _ _ _ _ (c .before .before .loop .inv) (leb-true _ _ (sym (c .before .at-end .ensures) ∙ not-false _ (c .if1 .left)))
+
+pub expand-spec : {M : Type 1} → statement M
+expand-spec =
+    tie.close
+    (tie.spec
+    Inv-loop
+    μ-loop
+    loop-holds
+    at-end-requires
+    current-requires
+    claim-of-requires
+    visit-requires
+    advanced-requires
+    loop-less
+    loop-again
+    same-length
+    same-length-2
+    returns)

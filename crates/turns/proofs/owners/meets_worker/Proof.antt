@@ -1,0 +1,137 @@
+-- `turns::owners::meets_worker` meets its contract. Assumes nothing.
+use Prim.Native.Nat.{ℕ, _-_, _<_}
+use mathlib.Core.Path.{_≡_, sym, _∙_, ap}
+use native.Mathlib.Omega.{arith}
+use Rattle.job.specs.Format.{workers, jobOf}
+use Rattle.turns.proofs.Following.{awaited-read, met, no-moves, awaits-none, at-fresh, at-complete, moves, room, awaited-most, open-owner}
+use Rattle.turns.specs.Turn.{meets}
+use Rattle.turns.proofs.owners.meets_worker.Statement.{statement}
+use Rattle.turns.proofs.owners.meets_worker.Tie as tie
+
+abbrev Inv-loop : tie.InvT-loop
+Inv-loop job table w v claims′ left₀ at₀ left at = (at < workers job) × (meets (workers job) (jobOf job) table w v ≡ meets left (jobOf job) table w at)
+
+abbrev μ-loop : tie.MeasureT-loop
+μ-loop job table w v claims′ left₀ at₀ left at = left
+
+claim-count-requires : tie.Need-claim-count-requires Inv-loop μ-loop
+claim-count-requires c κs = omega arith
+
+worker-count-requires : tie.Need-worker-count-requires Inv-loop μ-loop
+worker-count-requires c κs = omega arith
+
+loop-holds : tie.Need-loop-holds Inv-loop μ-loop
+loop-holds c =
+    let s = c .before .before .before .before .args .job .now in
+    (c .before .before .before .before .pre .2, ap (λ (k : ℕ). meets k (jobOf s) (c .before .before .before .before .args .table .now) (c .before .before .before .before .args .w) (c .before .before .before .before .args .v)) (sym (c .worker-count .ensures .value)))
+
+returns : tie.Need-returns Inv-loop μ-loop
+returns c =
+    let s = c .before .before .before .before .before .before .before .args .job .now in
+    let t = c .before .before .before .before .before .before .before .args .table .now in
+    let w = c .before .before .before .before .before .before .before .args .w in
+    let r = c .before .before .before .before .before .before .before .pre .1 in
+    let l = c .before .before .loop in
+    met (jobOf s) t w (l .left) (l .at) (c .if1 .taken) ∙ sym (l .inv .1)
+
+awaited-at-requires : tie.Need-awaited-at-requires Inv-loop μ-loop
+awaited-at-requires c κs =
+    let s = c .before .before .before .before .before .before .before .args .job .now in
+    let t = c .before .before .before .before .before .before .before .args .table .now in
+    let w = c .before .before .before .before .before .before .before .args .w in
+    let r = c .before .before .before .before .before .before .before .pre .1 in
+    let l = c .before .before .loop in
+    omega (arith, room s t r)
+
+returns-2 : tie.Need-returns-2 Inv-loop μ-loop
+returns-2 c =
+    let s = c .before .before .before .before .before .before .before .before .before .args .job .now in
+    let t = c .before .before .before .before .before .before .before .before .before .args .table .now in
+    let w = c .before .before .before .before .before .before .before .before .before .args .w in
+    let r = c .before .before .before .before .before .before .before .before .before .pre .1 in
+    let l = c .before .before .before .before .loop in
+    let a = awaited-read s t (l .at) (c .before .before .before .before .before .before .claim-count .ensures .value) (c .before .awaited-at .ensures .value) in
+    awaits-none (jobOf s) t w (l .left) (l .at) (c .before .before .before .loop-test .taken) (c .before .before .if1 .left) a (c .if2 .taken) ∙ sym (l .inv .1)
+
+sub-mark-at : tie.Need-sub-mark-at Inv-loop μ-loop
+sub-mark-at c = omega arith
+
+mark-at-requires : tie.Need-mark-at-requires Inv-loop μ-loop
+mark-at-requires c κs =
+    let s = c .before .before .before .before .before .before .before .before .before .args .job .now in
+    let t = c .before .before .before .before .before .before .before .before .before .args .table .now in
+    let w = c .before .before .before .before .before .before .before .before .before .args .w in
+    let r = c .before .before .before .before .before .before .before .before .before .pre .1 in
+    let l = c .before .before .before .before .loop in
+    let a = awaited-read s t (l .at) (c .before .before .before .before .before .before .claim-count .ensures .value) (c .before .awaited-at .ensures .value) in
+    omega (arith, room s t r, awaited-most s t r (l .at) (l .inv .0))
+
+returns-3 : tie.Need-returns-3 Inv-loop μ-loop
+returns-3 c =
+    let s = c .before .before .before .before .before .before .before .before .before .before .before .args .job .now in
+    let t = c .before .before .before .before .before .before .before .before .before .before .before .args .table .now in
+    let w = c .before .before .before .before .before .before .before .before .before .before .before .args .w in
+    let r = c .before .before .before .before .before .before .before .before .before .before .before .pre .1 in
+    let l = c .before .before .before .before .before .before .loop in
+    let a = awaited-read s t (l .at) (c .before .before .before .before .before .before .before .before .claim-count .ensures .value) (c .before .before .before .awaited-at .ensures .value) in
+    at-fresh (jobOf s) t w (l .left) (l .at) (c .before .before .before .before .before .loop-test .taken) (c .before .before .before .before .if1 .left) a (c .before .before .if2 .left) (c .before .mark-at .ensures .value) (c .if3 .taken) ∙ sym (l .inv .1)
+
+returns-4 : tie.Need-returns-4 Inv-loop μ-loop
+returns-4 c =
+    let s = c .before .before .before .before .before .before .before .before .before .before .before .before .args .job .now in
+    let t = c .before .before .before .before .before .before .before .before .before .before .before .before .args .table .now in
+    let w = c .before .before .before .before .before .before .before .before .before .before .before .before .args .w in
+    let r = c .before .before .before .before .before .before .before .before .before .before .before .before .pre .1 in
+    let l = c .before .before .before .before .before .before .before .loop in
+    let a = awaited-read s t (l .at) (c .before .before .before .before .before .before .before .before .before .claim-count .ensures .value) (c .before .before .before .before .awaited-at .ensures .value) in
+    at-complete (jobOf s) t w (l .left) (l .at) (c .before .before .before .before .before .before .loop-test .taken) (c .before .before .before .before .before .if1 .left) a (c .before .before .before .if2 .left) (c .before .before .mark-at .ensures .value) (c .before .if3 .left) (c .if4 .taken) ∙ sym (l .inv .1)
+
+sub-at : tie.Need-sub-at Inv-loop μ-loop
+sub-at c = omega arith
+
+sub-left : tie.Need-sub-left Inv-loop μ-loop
+sub-left c = omega arith
+
+loop-less : tie.Need-loop-less Inv-loop μ-loop
+loop-less c = omega arith
+
+loop-again : tie.Need-loop-again Inv-loop μ-loop
+loop-again c =
+    let s = c .before .before .before .before .before .before .before .before .before .before .before .before .args .job .now in
+    let t = c .before .before .before .before .before .before .before .before .before .before .before .before .args .table .now in
+    let w = c .before .before .before .before .before .before .before .before .before .before .before .before .args .w in
+    let r = c .before .before .before .before .before .before .before .before .before .before .before .before .pre .1 in
+    let l = c .before .before .before .before .before .before .before .loop in
+    let a = awaited-read s t (l .at) (c .before .before .before .before .before .before .before .before .before .claim-count .ensures .value) (c .before .before .before .before .awaited-at .ensures .value) in
+    let m = c .before .before .mark-at .ensures .value in
+    let h = awaited-most s t r (l .at) (l .inv .0) in
+    let o = open-owner s t r (c .before .before .before .before .awaited-at .result - 1) (omega arith) (omega arith) in
+    (omega arith, l .inv .1 ∙ moves (jobOf s) t w (l .left) (l .at) (c .before .before .before .before .before .before .loop-test .taken) (c .before .before .before .before .before .if1 .left) a (c .before .before .before .if2 .left) m (c .before .if3 .left) (c .if4 .left))
+
+returns-5 : tie.Need-returns-5 Inv-loop μ-loop
+returns-5 c =
+    let s = c .before .before .before .before .before .before .args .job .now in
+    let l = c .before .loop in
+    no-moves (jobOf s) (c .before .before .before .before .before .before .args .table .now) (c .before .before .before .before .before .before .args .w) (l .left) (l .at) (c .loop-test .left) ∙ sym (l .inv .1)
+
+pub meets-worker-spec : {M : Type 1} → statement M
+meets-worker-spec =
+    tie.close
+    (tie.spec
+    Inv-loop
+    μ-loop
+    claim-count-requires
+    worker-count-requires
+    loop-holds
+    returns
+    awaited-at-requires
+    returns-2
+    sub-mark-at
+    mark-at-requires
+    returns-3
+    returns-4
+    sub-at
+    sub-left
+    loop-less
+    loop-again
+    returns-5)

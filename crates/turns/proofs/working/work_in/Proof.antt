@@ -1,0 +1,90 @@
+-- `turns::working::work_in` meets its contract: each return is a law of the turn by what was gathered (proofs/Completing). Assumes nothing.
+use mathlib.Core.Path.{_∙_}
+use native.Mathlib.Omega.{arith}
+use borrow.Author.Needs.{needs}
+use Rattle.turns.proofs.Completing.{work-completed, work-idle, work-passes, left-one}
+use Rattle.turns.proofs.Following.{room}
+use Rattle.turns.proofs.working.work_in.Statement.{statement}
+use Rattle.turns.proofs.working.work_in.Tie as tie
+
+gather-requires : tie.Need-gather-requires
+gather-requires c κs = search needs
+
+all-done-requires : tie.Need-all-done-requires
+all-done-requires c κs =
+    let a = c .before .before .before .before .before .before .before .before .before .before .pre in
+    omega (arith, a .1 .0, a .1 .2, c .before .before .before .before .gather .kept .1 .1 .1 .1 .0, room _ _ (a .0 .table), a .0 .job .sized .claimsMost, a .0 .job .sized .workersMost)
+
+complete-requires : tie.Need-complete-requires
+complete-requires c κs = search needs
+
+same-length : tie.Need-same-length
+same-length c = search needs
+
+same-length-2 : tie.Need-same-length-2
+same-length-2 c = search needs
+
+returns : tie.Need-returns
+returns c =
+    let a = c .before .before .before .before .before .before .before .before .before .before .before .before .before .before .before .before .before in
+    let g = c .before .before .before .before .before .before .before .before .before .before .before .gather in
+    work-completed (a .args .job .now) (a .args .index .now) (a .args .table .now) (a .pre .0) (a .args .w) (a .args .n) (a .pre .1 .1) (g .last .1 .1 .1 .1 .0) (g .kept .1 .1 .1 .1 .0 ∙ a .pre .1 .0) (g .ensures) (c .before .before .before .before .before .before .all-done .ensures) (c .before .before .before .before .before .if1 .taken) (c .before .before .complete .ensures)
+
+newest-left-requires : tie.Need-newest-left-requires
+newest-left-requires c κs =
+    let a = c .before .before .before .before .before .before .before .before .before .before .before .before .before .before .pre in
+    omega (arith, a .1 .0, a .1 .2, c .before .before .before .before .before .before .before .before .gather .kept .1 .1 .1 .1 .0, room _ _ (a .0 .table), a .0 .job .sized .claimsMost, a .0 .job .sized .workersMost)
+
+same-length-3 : tie.Need-same-length-3
+same-length-3 c = search needs
+
+same-length-4 : tie.Need-same-length-4
+same-length-4 c = search needs
+
+returns-2 : tie.Need-returns-2
+returns-2 c =
+    let a = c .before .before .before .before .before .before .before .before .before .before .before .before .before .before .before .before in
+    let g = c .before .before .before .before .before .before .before .before .before .before .gather in
+    work-idle (a .args .job .now) (a .args .index .now) (a .args .table .now) (a .pre .0) (a .args .w) (a .args .n) (a .pre .1 .1) (g .last .1 .1 .1 .1 .0) (g .kept .1 .1 .1 .1 .0 ∙ a .pre .1 .0) (g .ensures) (c .before .before .before .before .before .all-done .ensures) (c .before .before .before .before .if1 .left) (c .before .newest-left .ensures .0) (c .if2 .taken)
+
+sub-pass-turn : tie.Need-sub-pass-turn
+sub-pass-turn c = search needs
+
+pass-turn-requires : tie.Need-pass-turn-requires
+pass-turn-requires c κs =
+    let a = c .before .before .before .before .before .before .before .before .before .before .before .before .before .before .before .before .before in
+    let g = c .before .before .before .before .before .before .before .before .before .before .before .gather in
+    let x = left-one (a .args .job .now) (a .args .index .now) (a .args .table .now) (a .pre .0) (a .args .w) (a .args .n) (a .pre .1 .1) (g .last .1 .1 .1 .1 .0) (g .kept .1 .1 .1 .1 .0 ∙ a .pre .1 .0) (g .ensures) (c .before .before .newest-left .ensures .0) (c .before .if2 .left) in
+    (a .pre .0, ((x .0, a .pre .1 .2), (x .1, x .2)))
+
+same-length-5 : tie.Need-same-length-5
+same-length-5 c = search needs
+
+same-length-6 : tie.Need-same-length-6
+same-length-6 c = search needs
+
+returns-3 : tie.Need-returns-3
+returns-3 c =
+    let a = c .before .before .before .before .before .before .before .before .before .before .before .before .before .before .before .before .before .before .before .before in
+    let g = c .before .before .before .before .before .before .before .before .before .before .before .before .before .before .gather in
+    work-passes (a .args .job .now) (a .args .index .now) (a .args .table .now) (a .pre .0) (a .args .w) (a .args .n) (a .pre .1 .1) (g .last .1 .1 .1 .1 .0) (g .kept .1 .1 .1 .1 .0 ∙ a .pre .1 .0) (g .ensures) (c .before .before .before .before .before .before .before .before .before .all-done .ensures) (c .before .before .before .before .before .before .before .before .if1 .left) (c .before .before .before .before .before .newest-left .ensures .0) (c .before .before .before .before .if2 .left) (c .before .before .pass-turn .ensures)
+
+pub work-in-spec : {M : Type 1} → statement M
+work-in-spec =
+    tie.close
+    (tie.spec
+    gather-requires
+    all-done-requires
+    complete-requires
+    same-length
+    same-length-2
+    returns
+    newest-left-requires
+    same-length-3
+    same-length-4
+    returns-2
+    sub-pass-turn
+    pass-turn-requires
+    same-length-5
+    same-length-6
+    returns-3)

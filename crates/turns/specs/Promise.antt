@@ -1,0 +1,101 @@
+-- Demands 2 and 3 for an accepted job of bytes s: what holds of every list of calls, and of every two, from freshly started tables.
+--   Fresh s t       t is long enough for the job: a table to be started
+--   from s t xs     the table after the list xs, from t freshly started; history s t xs   its turns
+--   Leads j x y     a literal of a rule of x, plain or negated, has claim y
+--   Asked j c       a question names c or leads to it through all literals of rules
+--   alone j         the same job with one worker, worker 0, in every question
+--   turns n         n single turns of worker 0
+--   bound j         2L + A + 3Q
+--   Promise s       the demands, a field a clause
+use Prim.Native.Nat.{ℕ, zero, suc, _+_, _*_, _<_, _≤_}
+use mathlib.Core.Path.{_≡_}
+use mathlib.Core.List.{List, [], _∷_, map}
+use mathlib.Core.Logic.{_↔_}
+use lib.ListN.{length, getD}
+use Rattle.base.specs.Graph.{Reach}
+use Rattle.job.specs.Job.{Job, literalCount}
+use Rattle.job.specs.Format.{jobOf}
+use Rattle.job.specs.Encoding.{encode, _∈_}
+use Rattle.job.specs.Checks.{checkJob}
+use Rattle.job.specs.declared.Check.the-variants.{Accepted}
+use Rattle.job.specs.declared.Question.{Question}
+use Rattle.model.specs.Model.{programOf, verdict, byteOf}
+use Rattle.table.specs.Questions.{askedBy}
+use Rattle.table.specs.Layout.{used, mark, answerWord}
+use Rattle.table.specs.Start.{startWords}
+use Rattle.table.specs.Reading.{readingOf, readingValue}
+use Rattle.waiting.specs.Runs.{Rounds}
+use Rattle.turns.specs.Turn.{lits, turn}
+use Rattle.turns.specs.declared.Kind.the-variants.{Idle}
+use Rattle.turns.specs.Lists.{Call, turning, after, turnsOf, Event, events, IsAnswered, answerOf, AllAnswered, Complete}
+
+abbrev pub Fresh : List ℕ → List ℕ → Type 0
+Fresh s t = used (jobOf s) ≤ length t
+
+abbrev pub from : List ℕ → List ℕ → List Call → List ℕ
+from s t xs = after s (startWords (jobOf s) t) xs
+
+abbrev pub history : List ℕ → List ℕ → List Call → List Event
+history s t xs = events s (startWords (jobOf s) t) xs
+
+-- "All literals of rules lead from a claim to the claim of each literal, plain or negated, of each rule it heads, and on from there any number of times"
+abbrev pub Leads : Job → ℕ → ℕ → Type 0
+Leads j x y = y ∈ lits j x
+
+pub record Asked (j : Job) (c : ℕ) : Type 0 where
+  pub question : Question
+  pub is : question ∈ j .questions
+  pub leads : Reach (Leads j) (question .claim) c
+
+-- "One worker asking everything: the same job with T 1 and worker 0 in every question"
+unfoldable pub alone : Job → Job
+alone j =
+    record { claims = j .claims; workers = 1; rules = j .rules; questions = map (λ (q : Question). record { worker = 0; claim = q .claim }) (j .questions) }
+
+unfoldable pub turns : ℕ → List Call
+turns zero = []
+turns (suc n) = turning 0 ∷ turns n
+
+abbrev pub bound : Job → ℕ
+bound j = 2 * literalCount j + j .claims + 3 * length (j .questions)
+
+pub record Promise (s : List ℕ) : Type 0 where
+  -- demand 2: "a complete claim is marked true, false or undefined exactly as it is in the well-founded model of the whole job"
+  pub verdicts :
+      (t : List ℕ) → Fresh s t → (xs : List Call) (c : ℕ) → c < jobOf s .claims → Complete (from s t xs) c
+      → readingValue (readingOf (mark (from s t xs) c)) ≡ byteOf (verdict (programOf (jobOf s)) c)
+  -- demand 3: "claims complete after both have equal values"
+  pub values :
+      (t u : List ℕ) → Fresh s t → Fresh s u → (xs ys : List Call) (c : ℕ) → c < jobOf s .claims → Complete (from s t xs) c → Complete (from s u ys) c
+      → readingOf (mark (from s t xs) c) ≡ readingOf (mark (from s u ys) c)
+  -- "if all questions are answered after both, the same claims are complete, namely those the questions name or lead to"
+  pub claims :
+      (t : List ℕ) → Fresh s t → (xs : List Call) → AllAnswered (jobOf s) (history s t xs) → (c : ℕ) → c < jobOf s .claims
+      → Complete (from s t xs) c ↔ Asked (jobOf s) c
+  -- "each answered question has the answer that one worker asking everything in sequence gets", by the question's position in the file
+  pub answers :
+      (t u : List ℕ) → Fresh s t → Fresh (encode (alone (jobOf s))) u → (xs : List Call) (w k : ℕ) → w < jobOf s .workers → k < length (askedBy (jobOf s) w)
+      → IsAnswered (history s t xs) w k
+      → (n : ℕ) → AllAnswered (alone (jobOf s)) (history (encode (alone (jobOf s))) u (turns n))
+      → answerOf (jobOf s) (history s t xs) w k ≡ answerOf (alone (jobOf s)) (history (encode (alone (jobOf s))) u (turns n)) 0 (getD (askedBy (jobOf s) w) k 0)
+  -- that job is accepted, and its one worker's turns answer all
+  pub aloneAccepted : Accepted ≡ checkJob (encode (alone (jobOf s)))
+  pub aloneAnswers :
+      (u : List ℕ) → Fresh (encode (alone (jobOf s))) u → (n : ℕ) → bound (jobOf s) ≤ n
+      → AllAnswered (alone (jobOf s)) (history (encode (alone (jobOf s))) u (turns n))
+  -- "its question word holds it"
+  pub holds :
+      (t : List ℕ) → Fresh s t → (xs : List Call) (w k : ℕ) → w < jobOf s .workers → k < length (askedBy (jobOf s) w) → IsAnswered (history s t xs) w k
+      → getD (from s t xs) (answerWord (jobOf s) (getD (askedBy (jobOf s) w) k 0)) 0 ≡ answerOf (jobOf s) (history s t xs) w k
+  -- "all is answered exactly when no worker's next turn would change anything"
+  pub quiet :
+      (t : List ℕ) → Fresh s t → (xs : List Call)
+      → AllAnswered (jobOf s) (history s t xs) ↔ ((w : ℕ) → w < jobOf s .workers → turn (jobOf s) (from s t xs) w .table ≡ from s t xs)
+  -- "A turn changes something exactly when its kind isn't idle."
+  pub changes :
+      (t : List ℕ) → Fresh s t → (xs : List Call) (w : ℕ) → w < jobOf s .workers
+      → (turn (jobOf s) (from s t xs) w .kind ≡ Idle) ↔ (turn (jobOf s) (from s t xs) w .table ≡ from s t xs)
+  -- "after every list whose turns hold 2L + A + 3Q rounds, one following another, all is answered"
+  pub rounds :
+      (t : List ℕ) → Fresh s t → (xs : List Call) → Rounds (jobOf s .workers) (bound (jobOf s)) (turnsOf s (startWords (jobOf s) t) xs)
+      → AllAnswered (jobOf s) (history s t xs)

@@ -1,0 +1,48 @@
+// A whole turn. The contract cites `turn` of specs/Turn.
+ghost use mathlib.Core.Path.{_≡_};
+ghost use Prim.Native.Nat.{_<_};
+ghost use Rattle.job.specs.Format.{workers as workersOf, jobOf};
+ghost use Rattle.job.specs.Accepted.{WellFormed};
+ghost use Rattle.table.specs.Layout.{awaited as awaitedOf};
+ghost use Rattle.table.specs.Ranges.{InRange};
+ghost use Rattle.turns.specs.Turn.{turn};
+ghost use Rattle.turns.specs.Ready.{Ready, Made};
+use crate::Kind;
+use crate::asking;
+use crate::newest;
+use crate::stores;
+use crate::working;
+use job::format;
+use table::words;
+
+// The turn of worker w, which awaits claim awaited - 1.
+fn wait_turn(job: &[u8], table: &mut [u32], w: usize, awaited: usize) -> Kind
+    requires { ⌜ WellFormed (now job) × InRange (jobOf (now job)) (now table) × (w < workersOf (now job)) ⌝ }
+    requires { ⌜ (0 < awaited) × (awaited ≡ awaitedOf (jobOf (now job)) (now table) w) ⌝ }
+    ensures { λ r. ⌜ Made (turn (jobOf (now (job .entry))) (now (table .entry)) w) r (now (table .exit)) ⌝ }
+{
+    let claims = format::claim_count(job);
+    if 256 <= words::mark_at(table, awaited - 1) {
+        stores::store_word(table, 8 + 3 * claims + 2 * w, 0);
+        return Kind::Woke;
+    }
+    Kind::Idle
+}
+
+// A turn of worker w.
+pub fn take_turn(job: &[u8], index: &[u32; 4097], table: &mut [u32], w: usize) -> Kind
+    requires { ⌜ Ready (now job) (now index) (now table) ⌝ }
+    requires { ⌜ w < workersOf (now job) ⌝ }
+    ensures { λ r. ⌜ Made (turn (jobOf (now (job .entry))) (now (table .entry)) w) r (now (table .exit)) ⌝ }
+{
+    let claims = format::claim_count(job);
+    let awaited = words::awaited_at(table, claims, w);
+    if 0 < awaited {
+        return wait_turn(job, table, w, awaited);
+    }
+    let n = newest::newest_owned(table, claims, w);
+    if n == 0 {
+        return asking::ask_turn(job, table, w);
+    }
+    working::work_turn(job, index, table, w, n - 1)
+}
