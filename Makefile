@@ -1,6 +1,6 @@
 # make run    builds the library, and runs the example in C on it
 # make test   all tests, then the proofs from nothing: what the gate does
-# make bench  plain evaluation beside other evaluators, as ratios
+# make bench  plain evaluation and runs beside other evaluators, as ratios
 .PHONY: run test bench library clean
 
 library:
@@ -15,6 +15,7 @@ test:
 	.ci/run
 
 bench: library
+	rt staticlib table_calls
 	bench/run
 
 clean:

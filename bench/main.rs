@@ -5,13 +5,13 @@
 #[allow(dead_code)]
 mod library;
 mod prolog;
+mod times;
 mod worst;
-
-use std::time::{Duration, Instant};
 
 use oracle::checks::{part_input, Job};
 use oracle::jobs::generate;
 use oracle::model::{well_founded, Program};
+use times::{median_times, ratio, show_spread};
 
 /// Kinds and the seeds of their fields.  The large ones are of all eight shapes.
 const FIELDS: [(&str, &[u64]); 11] = [
@@ -27,33 +27,6 @@ const FIELDS: [(&str, &[u64]); 11] = [
     ("large", &[0, 1, 2, 3, 10, 4, 5, 6]),
     ("empty", &[1, 2]),
 ];
-
-/// Two evaluators are run in turn for so long, but at most so often.
-const LONG_ENOUGH: Duration = Duration::from_millis(600);
-const OFTEN_ENOUGH: usize = 501;
-
-fn time(call: impl FnOnce()) -> f64 {
-    let start = Instant::now();
-    call();
-    start.elapsed().as_secs_f64()
-}
-
-/// Seconds that each of two calls takes: the medians of several, in turn, so
-/// that what else the machine does meets both alike.
-fn median_times(mut first: impl FnMut(), mut second: impl FnMut()) -> [f64; 2] {
-    let start = Instant::now();
-    let mut times = [Vec::new(), Vec::new()];
-    while times[0].is_empty() || (times[0].len() < OFTEN_ENOUGH && start.elapsed() < LONG_ENOUGH) {
-        times[0].push(time(&mut first));
-        times[1].push(time(&mut second));
-    }
-    times.map(median)
-}
-
-pub fn median(mut values: Vec<f64>) -> f64 {
-    values.sort_by(f64::total_cmp);
-    values[values.len() / 2]
-}
 
 /// The oracle's check and evaluation, with the library's way of answering.
 fn oracle_evaluate(bytes: &[u8], verdicts: &mut [u8]) -> usize {
@@ -77,22 +50,13 @@ struct Row {
 fn measure(kind: &'static str, seed: u64, bytes: &[u8]) -> Row {
     let job = Job::check(bytes).expect("a made field is accepted");
     let (mut expected, mut verdicts) = ([0; 4096], [0; 4096]);
-    let [oracle, ours] = median_times(
-        || _ = oracle_evaluate(bytes, &mut expected),
-        || _ = library::evaluate(bytes, &mut verdicts).expect("a made field is accepted"),
-    );
+    let [oracle, ours] = median_times([
+        &mut || _ = oracle_evaluate(bytes, &mut expected),
+        &mut || _ = library::evaluate(bytes, &mut verdicts).expect("a made field is accepted"),
+    ]);
     assert!(verdicts == expected, "{kind} {seed}: the verdicts differ");
     let sizes = [job.claims, job.rules.len(), job.literals.len()];
     Row { kind, seed, sizes, ours, oracle, prolog: prolog::seconds(&job) }
-}
-
-/// A ratio, with fewer places the larger it is.
-fn ratio(over: f64, under: f64) -> String {
-    match over / under {
-        value if value < 0.1 => format!("{value:.4}"),
-        value if value < 10.0 => format!("{value:.2}"),
-        value => format!("{value:.0}"),
-    }
 }
 
 fn show(row: &Row) {
@@ -113,17 +77,10 @@ fn show(row: &Row) {
 
 /// The medians and extremes of the ratios over all fields.
 fn show_summary(rows: &[Row]) {
-    let spread = |name: &str, mut ratios: Vec<f64>| {
-        ratios.sort_by(f64::total_cmp);
-        if let (Some(least), Some(most)) = (ratios.first(), ratios.last()) {
-            let middle = ratios[ratios.len() / 2];
-            println!("{name}: least {least:.2}, median {middle:.2}, most {most:.2} ({} fields)", ratios.len());
-        }
-    };
     println!();
-    spread("ours / oracle", rows.iter().map(|row| row.ours / row.oracle).collect());
+    show_spread("ours / oracle", rows.iter().map(|row| row.ours / row.oracle).collect());
     let decided = rows.iter().filter_map(|row| row.prolog.ok().map(|seconds| seconds / row.ours));
-    spread("SWI-Prolog / ours", decided.collect());
+    show_spread("SWI-Prolog / ours", decided.collect());
     let sum = |time: fn(&Row) -> f64| rows.iter().map(time).sum::<f64>();
     println!("all fields once: ours {:.2} s, oracle {:.2} s", sum(|row| row.ours), sum(|row| row.oracle));
 }

@@ -8,7 +8,7 @@ use std::time::{Duration, Instant};
 use oracle::checks::Job;
 use oracle::prolog::prolog_program;
 
-use crate::median;
+use crate::times::median;
 
 /// The time is the median of so many runs.
 const RUNS: usize = 3;

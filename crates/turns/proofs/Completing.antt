@@ -32,7 +32,8 @@ use Rattle.turns.specs.Turn.{Turned, lits, spread, spreads, reached, new
 use Rattle.turns.specs.Ready.{Ready, Made, members, passedIn}
 use Rattle.turns.specs.declared.Kind.{Kind}
 use Rattle.turns.specs.declared.Kind.the-variants.{Idle, Completed}
-use Rattle.turns.proofs.Cursors.{size-is, lits-length, as-made}
+use Rattle.turns.proofs.Cursors.{size-is, as-made}
+use Rattle.turns.proofs.Jobs.{lits-length}
 
 -- what is reached stands in rising order
 module _ (j : Job) (t : List ℕ) where

@@ -40,15 +40,8 @@ use Rattle.turns.specs.Ready.{Ready, Made, sizeIn}
 use Rattle.turns.specs.declared.Kind.{Kind}
 use Rattle.turns.specs.declared.Kind.the-variants.{Opened, Waits, Took, Passed}
 use Rattle.turns.proofs.Following.{room, open-owner}
-
--- the claims of a claim's literals
-pub lits-length : (j : Job) (c : ℕ) → length (lits j c) ≡ length (literalsOf c (j .rules))
-unfolding lits
-lits-length j c = length-map (literalsOf c (j .rules)) claimOf
-
-lits-span : (s : List ℕ) → WellFormed s → (c : ℕ) → lits (jobOf s) c ≡ span (λ i. claimOf (literalAt s (rules s) i)) (claimStart s c) (claimStart s (c + 1) - claimStart s c)
-unfolding lits
-lits-span s f c = ap (map claimOf) (claim-literals s f c .part) ∙ map-span claimOf (literalAt s (rules s)) (claimStart s c) (claimStart s (c + 1) - claimStart s c)
+use Rattle.turns.proofs.Jobs.{lits-length}
+use Rattle.turns.proofs.Gathering.{lits-span}
 
 module _ (s index : List ℕ) (f : WellFormed s) (x : Index s index) (c : ℕ) (l : c < claims s) where
   pub size-is : sizeIn index c ≡ length (lits (jobOf s) c)

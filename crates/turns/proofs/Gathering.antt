@@ -74,7 +74,7 @@ unfolding jobOf
 job-claims s = refl
 
 -- the claims of a claim's literals
-lits-span : (s : List ℕ) → WellFormed s → (c : ℕ) → lits (jobOf s) c ≡ span (λ i. claimOf (literalAt s (rules s) i)) (claimStart s c) (claimStart s (c + 1) - claimStart s c)
+pub lits-span : (s : List ℕ) → WellFormed s → (c : ℕ) → lits (jobOf s) c ≡ span (λ i. claimOf (literalAt s (rules s) i)) (claimStart s c) (claimStart s (c + 1) - claimStart s c)
 unfolding lits
 lits-span s w c = ap (map claimOf) (claim-literals s w c .part) ∙ map-span claimOf (literalAt s (rules s)) (claimStart s c) (claimStart s (c + 1) - claimStart s c)
 

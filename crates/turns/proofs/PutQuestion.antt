@@ -23,6 +23,7 @@ use Rattle.job.proofs.Parts.{Asked}
 use Rattle.table.specs.Questions.{askedBy, claimAsked, questionClaim}
 use Rattle.table.specs.Layout.{opened, mark, fresh, complete, answered, awaitedWord, answeredWord, answerWord, valueOf}
 use Rattle.table.specs.Ranges.{InRange, marked}
+use Rattle.turns.proofs.Cursors.{opened-few}
 use Rattle.turns.specs.Turn.{Turned, openClaim, askTurn}
 use Rattle.turns.specs.Ready.{Made, nextQuestion}
 use Rattle.turns.specs.declared.Kind.{Kind}
@@ -63,12 +64,8 @@ claim-asked f a (suc n) (suc k) h =
 
 -- a fresh claim is left, so fewer than all are opened
 pub fresh-left : (s t : List ℕ) → WellFormed s → InRange (jobOf s) t → (c : ℕ) → c < claims s → mark t c ≡ 0 → opened t < 4096
-unfolding jobOf marked
-fresh-left s t f r c h e =
-    let all : Claims = λ d. true in
-    let less : count (λ d. not (fresh t d)) (claims s) < count all (claims s) =
-    count-less (λ d. not (fresh t d)) all (λ d x. tt) (claims s) c h tt (is-not (not (fresh t c)) (ap not (eq-eqb (mark t c) 0 e))) in
-    omega (arith, r .openedIs, count-le all (claims s), f .sized .claimsMost)
+unfolding jobOf
+fresh-left s t f r c h e = omega (arith, opened-few (jobOf s) t r c h e, f .sized .claimsMost)
 
 -- w puts question n, at position k, of claim c, whose mark is m
 module _ (s t : List ℕ) (w n k : ℕ) (q : Question) (m : ℕ) (good : WellFormed s) (count-is : n ≡ answered (jobOf s) t w) (real : k < questions s) (next : At k ≡ nextQuestion (jobOf s) w n) (read : Asked s k q) (marked-is : m ≡ mark t (q .claim)) where

@@ -10,6 +10,7 @@ use Rattle.job.specs.declared.Cursor.{Cursor}
 use Rattle.base.specs.Choose.{pick}
 use Rattle.base.specs.Span.{span}
 use Rattle.base.specs.Lists.{upto, keep, every}
+use Rattle.base.proofs.Lists.{keep-keep}
 use Rattle.base.proofs.Span.{span-one, span-none}
 use Rattle.model.specs.Passes.{setOf}
 use Rattle.table.specs.Layout.{number, cursor, mark, owned}
@@ -126,18 +127,9 @@ swept-all {t} {p} {c} {m} s h =
     s .is ∙ ap₂ (λ (x y : ℕ). newest t (keep p (from x y))) e f
 
 -- of the members of a set, those for which q holds
-pub keep-keep : (p q : ℕ → Bool) (cs : List ℕ) → keep q (keep p cs) ≡ keep (λ d. p d && q d) cs
-unfolding keep pick
-keep-keep p q [] = refl
-keep-keep p q (c ∷ cs) = go (p c) (keep-keep p q cs)
-  where
-    go : (b : Bool) → keep q (keep p cs) ≡ keep (λ d. p d && q d) cs → keep q (pick b (c ∷ keep p cs) (keep p cs)) ≡ pick (b && q c) (c ∷ keep (λ d. p d && q d) cs) (keep (λ d. p d && q d) cs)
-    go true e = ap (λ (x : List ℕ). pick (q c) (c ∷ x) x) e
-    go false e = e
-
 pub keep-members : (q : ℕ → Bool) (seen : List ℕ) → keep q (members seen) ≡ keep (λ d. setOf seen d && q d) (upto (length seen))
 unfolding members
-keep-members q seen = keep-keep (setOf seen) q (upto (length seen))
+keep-members q seen = keep-keep q (setOf seen) (upto (length seen))
 
 -- a claim's literals, by a cursor over all of them
 pub cursor-size : (index : List ℕ) (c : ℕ) {all : Cursor} → all ≡ record { at = getD index c 0 + 0; end = getD index (c + 1) 0 } → all .end - all .at ≡ sizeIn index c

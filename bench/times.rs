@@ -1,0 +1,49 @@
+//! Times of calls made in turn, and their ratios.
+
+use std::time::{Duration, Instant};
+
+/// Calls are made in turn for so long, but at most so often each.
+const LONG_ENOUGH: Duration = Duration::from_millis(600);
+const OFTEN_ENOUGH: usize = 501;
+
+fn time(call: &mut dyn FnMut()) -> f64 {
+    let start = Instant::now();
+    call();
+    start.elapsed().as_secs_f64()
+}
+
+/// Seconds that each of some calls takes: the medians of several, in turn, so
+/// that what else the machine does meets all alike.
+pub fn median_times<const N: usize>(mut calls: [&mut dyn FnMut(); N]) -> [f64; N] {
+    let start = Instant::now();
+    let mut times = [(); N].map(|()| Vec::new());
+    while times[0].is_empty() || (times[0].len() < OFTEN_ENOUGH && start.elapsed() < LONG_ENOUGH) {
+        for (times, call) in times.iter_mut().zip(&mut calls) {
+            times.push(time(call));
+        }
+    }
+    times.map(median)
+}
+
+pub fn median(mut values: Vec<f64>) -> f64 {
+    values.sort_by(f64::total_cmp);
+    values[values.len() / 2]
+}
+
+/// A ratio, with fewer places the larger it is.
+pub fn ratio(over: f64, under: f64) -> String {
+    match over / under {
+        value if value < 0.1 => format!("{value:.4}"),
+        value if value < 10.0 => format!("{value:.2}"),
+        value => format!("{value:.0}"),
+    }
+}
+
+/// Prints the median and the extremes of some ratios.
+pub fn show_spread(name: &str, mut ratios: Vec<f64>) {
+    ratios.sort_by(f64::total_cmp);
+    if let (Some(least), Some(most)) = (ratios.first(), ratios.last()) {
+        let middle = ratios[ratios.len() / 2];
+        println!("{name}: least {least:.2}, median {middle:.2}, most {most:.2} ({} fields)", ratios.len());
+    }
+}

@@ -1,0 +1,139 @@
+//! Times whole runs on made fields: the library's and the oracle's, one after
+//! the other on the same job, schedule and table.  bench/run builds it; kinds
+//! may be named.
+
+#[path = "../tests/table/library.rs"]
+#[allow(dead_code)]
+mod library;
+mod times;
+
+use oracle::checks::{part_input, Job};
+use oracle::jobs::generate;
+use oracle::turns::{run_listing, Layout, Table};
+use times::{median_times, ratio, show_spread};
+
+/// Kinds and the seeds of their fields.
+const FIELDS: [(&str, &[u64]); 11] = [
+    ("tiny", &[1, 2, 3]),
+    ("small", &[1, 2, 3]),
+    ("ring", &[1, 2, 3, 4]),
+    ("negloop", &[1, 2, 3, 4]),
+    ("chain", &[1, 2, 3, 4]),
+    ("strat", &[1, 2, 3, 4]),
+    ("random", &[1, 2, 3, 4]),
+    ("cluster", &[1, 2, 3, 4]),
+    ("tower", &[1, 2, 3, 4]),
+    ("large", &[0, 1, 3, 4]),
+    ("empty", &[1, 2]),
+];
+
+/// A field: its job, and a schedule after which all is answered.
+struct Field {
+    kind: &'static str,
+    seed: u64,
+    bytes: Vec<u8>,
+    schedule: Vec<u8>,
+}
+
+/// The made schedule, then workers in turn until all is answered.
+fn whole_schedule(job: &Job, made: &[u8]) -> Vec<u8> {
+    let mut schedule = Vec::new();
+    run_listing(job, made, false, |_, worker, _| schedule.push(worker as u8));
+    schedule
+}
+
+fn make_field(kind: &'static str, seed: u64) -> Field {
+    let input = generate(kind, seed).expect("the kind is known");
+    let (bytes, made) = part_input(&input);
+    let job = Job::check(bytes).expect("a made field is accepted");
+    Field { kind, seed, bytes: bytes.to_vec(), schedule: whole_schedule(&job, made) }
+}
+
+/// The library starts a table and makes the run.
+fn run_ours(field: &Field, words: &mut [u32]) -> [u64; 8] {
+    let mut tally = [0; 8];
+    assert!(library::start(&field.bytes, words) == 0, "a made field is started");
+    assert!(library::run(&field.bytes, words, &field.schedule, &mut tally) == 0, "the run is accepted");
+    tally
+}
+
+/// The oracle checks the job, starts a table, makes the turns and lays the
+/// words where the library does; by the text, or with shortcuts.
+fn run_oracle(field: &Field, by_text: bool, words: &mut [u32]) -> [u64; 8] {
+    let job = Job::check(&field.bytes).expect("a made field is accepted");
+    let mut table = Table::start(&job, by_text);
+    let mut tally = [0; 8];
+    for &worker in &field.schedule {
+        tally[table.turn(u32::from(worker)) as usize] += 1;
+    }
+    words.copy_from_slice(&table.words);
+    tally
+}
+
+/// One field's times in seconds.
+struct Row {
+    ours: f64,
+    text: f64,
+    oracle: f64,
+    turns: usize,
+}
+
+fn measure(field: &Field) -> Row {
+    let job = Job::check(&field.bytes).expect("a made field is accepted");
+    let mut words = vec![0; Layout::of_job(&job).used];
+    let tally = run_ours(field, &mut words);
+    let made = words.clone();
+    for by_text in [true, false] {
+        assert!(run_oracle(field, by_text, &mut words) == tally, "{} {}: the tallies differ", field.kind, field.seed);
+        assert!(words == made, "{} {}: the tables differ", field.kind, field.seed);
+    }
+    let words = std::cell::RefCell::new(words);
+    let [ours, text, oracle] = median_times([
+        &mut || _ = run_ours(field, &mut words.borrow_mut()),
+        &mut || _ = run_oracle(field, true, &mut words.borrow_mut()),
+        &mut || _ = run_oracle(field, false, &mut words.borrow_mut()),
+    ]);
+    let row = Row { ours, text, oracle, turns: field.schedule.len() };
+    show(field, &job, &row, tally);
+    row
+}
+
+fn show(field: &Field, job: &Job, row: &Row, tally: [u64; 8]) {
+    println!(
+        "| {:7} | {:4} | {:4} | {:5} | {:2} | {:4} | {:6} | {:6} | {:9} | {:10.4} | {:10.4} | {:10.4} | {:>9} | {:>11} |",
+        field.kind,
+        field.seed,
+        job.claims,
+        job.literals.len(),
+        job.workers,
+        job.questions.len(),
+        row.turns,
+        row.turns as u64 - tally[0],
+        tally[6],
+        1e3 * row.ours,
+        1e3 * row.text,
+        1e3 * row.oracle,
+        ratio(row.ours, row.text),
+        ratio(row.ours, row.oracle),
+    );
+}
+
+const HEADING: &str = "\
+| kind    | seed |    A |     L |  T |    Q |  turns |  moved | completed |    ours ms |    text ms |  oracle ms | ours/text | ours/oracle |
+|---------|-----:|-----:|------:|---:|-----:|-------:|-------:|----------:|-----------:|-----------:|-----------:|----------:|------------:|
+";
+
+fn main() {
+    let named: Vec<String> = std::env::args().skip(1).collect();
+    let wanted = |kind: &str| named.is_empty() || named.iter().any(|name| name == kind);
+    print!("{HEADING}");
+    let mut rows = Vec::new();
+    for (kind, seeds) in FIELDS.into_iter().filter(|(kind, _)| wanted(kind)) {
+        rows.extend(seeds.iter().map(|&seed| measure(&make_field(kind, seed))));
+    }
+    println!();
+    show_spread("ours / text", rows.iter().map(|row| row.ours / row.text).collect());
+    show_spread("ours / oracle", rows.iter().map(|row| row.ours / row.oracle).collect());
+    let microseconds = rows.iter().map(|row| 1e6 * row.ours / row.turns.max(1) as f64);
+    show_spread("ours, microseconds a turn", microseconds.collect());
+}

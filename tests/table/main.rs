@@ -1,0 +1,138 @@
+//! Compares starting, turns, runs and readings with the oracle's, call by call
+//! and on every word; exit status 1 if any differ.  `table help` prints the
+//! commands.
+
+mod beside;
+mod calls;
+mod lengths;
+mod lent;
+mod library;
+mod lists;
+#[path = "../compare/mapped.rs"]
+mod mapped;
+mod others;
+mod single;
+mod totals;
+
+use std::process::exit;
+use std::time::Instant;
+
+use oracle::jobs::generate;
+use totals::Totals;
+
+const USAGE: &str = "\
+table                                  all that the gate runs
+table made KINDS FROM COUNT [whole]    made jobs of these kinds (commas between, or `all`),
+                                       COUNT seeds each, the first of them FROM; with
+                                       `whole` no list is ended early
+table lengths                          lengths of 4 GiB and more
+
+Kinds: those of `oracle kinds`, each a list of calls from a start; `table`, tables
+that no run made; `words`, tables with words out of range.
+";
+
+/// Kinds and how many jobs of each the gate compares.
+const GATE: [(&str, u64); 15] = [
+    ("tiny", 1500),
+    ("small", 1500),
+    ("table", 1500),
+    ("words", 120),
+    ("damaged", 1000),
+    ("empty", 100),
+    ("edge", 160),
+    ("tower", 150),
+    ("negloop", 30),
+    ("strat", 15),
+    ("cluster", 15),
+    ("random", 8),
+    ("ring", 15),
+    ("chain", 8),
+    ("large", 8),
+];
+
+/// In the gate a list ends early when it has cost about so many steps.
+const GATE_WORK: usize = 30_000_000;
+
+fn compare_made(totals: &mut Totals, kind: &str, from: u64, count: u64, work: usize) {
+    for seed in from..from + count {
+        let name = format!("{kind} {seed}");
+        if kind == "words" {
+            single::compare_words(totals, &name, seed);
+            continue;
+        }
+        let Some(input) = generate(kind, seed) else {
+            eprintln!("table: no kind is called {kind}");
+            exit(2);
+        };
+        match kind {
+            "table" => single::compare_table(totals, &name, &input),
+            _ => lists::compare_input(totals, &name, &input, work),
+        }
+    }
+}
+
+/// Runs one part and says what it compared.
+fn part(all: &mut Totals, title: &str, work: impl FnOnce(&mut Totals)) {
+    let start = Instant::now();
+    let mut totals = Totals::default();
+    work(&mut totals);
+    println!(
+        "{title}: {} jobs, {} lists to their end, {} calls, {} turns, {} differences, {:.1} s",
+        totals.jobs,
+        totals.finished,
+        totals.calls,
+        totals.turns(),
+        totals.differences,
+        start.elapsed().as_secs_f64()
+    );
+    all.add(&totals);
+}
+
+fn compare_lengths(all: &mut Totals) {
+    part(all, "long jobs", lengths::long_jobs);
+    part(all, "long tables", lengths::long_tables);
+}
+
+fn compare_gate(all: &mut Totals) {
+    compare_lengths(all);
+    for (kind, count) in GATE {
+        part(all, kind, |totals| compare_made(totals, kind, 0, count, GATE_WORK));
+    }
+    all.expect_all_met();
+}
+
+fn kinds_named(names: &str) -> Vec<String> {
+    match names {
+        "all" => GATE.iter().map(|(kind, _)| kind.to_string()).collect(),
+        _ => names.split(',').map(str::to_string).collect(),
+    }
+}
+
+fn usage() -> ! {
+    eprint!("{USAGE}");
+    exit(2);
+}
+
+fn main() {
+    let arguments: Vec<String> = std::env::args().skip(1).collect();
+    let words: Vec<&str> = arguments.iter().map(String::as_str).collect();
+    let mut all = Totals::default();
+    match words.as_slice() {
+        [] => compare_gate(&mut all),
+        ["lengths"] => compare_lengths(&mut all),
+        ["made", kinds, from, count, rest @ ..] => {
+            let (Ok(from), Ok(count)) = (from.parse(), count.parse()) else { usage() };
+            let work = match rest {
+                [] => GATE_WORK,
+                ["whole"] => usize::MAX,
+                _ => usage(),
+            };
+            for kind in kinds_named(kinds) {
+                part(&mut all, &kind, |totals| compare_made(totals, &kind, from, count, work));
+            }
+        }
+        _ => usage(),
+    }
+    all.summary();
+    exit(i32::from(all.differences > 0));
+}
