@@ -145,7 +145,7 @@ pub fn run(job: &[u8], table: &mut [u32], schedule: &[u8]) -> RunAnswer
 }
 
 // Row 11 of a run: every worker that the schedule names is one of the job's.
-fn check_schedule(job: &[u8], schedule: &[u8]) -> Check
+pub fn check_schedule(job: &[u8], schedule: &[u8]) -> Check
     requires { ⌜ WellFormed (now job) ⌝ }
     ensures { λ r. ⌜ r ≡ checkSchedule (now (job .entry)) (now (schedule .entry)) ⌝ }
 {

@@ -9,8 +9,8 @@ mod passing;
 mod questions;
 mod schedule;
 mod stores;
-mod tally;
-mod turn;
+pub mod tally;
+pub mod turn;
 mod working;
 
 // The kind of a turn.

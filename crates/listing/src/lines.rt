@@ -1,0 +1,128 @@
+// The lines of a listing, written into a buffer that the caller lends. Each function writes at `at` and answers the place after what
+// it wrote. The contracts cite specs/Listing.
+ghost use mathlib.Core.Path.{_≡_};
+ghost use mathlib.Core.List.{flatMap};
+ghost use Prim.Native.Nat.{_+_, _*_, _<_, _≤_};
+ghost use lib.ListN.{length};
+ghost use Rattle.base.specs.Lists.{upto};
+ghost use Rattle.job.specs.Accepted.{WellFormed};
+ghost use Rattle.job.specs.Format.{jobOf, questions};
+ghost use Rattle.table.specs.Layout.{used};
+ghost use Rattle.listing.specs.Text.{Put};
+ghost use Rattle.listing.specs.Listing.{refusalLine, claimLine, countText, tallyLine, answerLine, lineOf, questionLines};
+use crate::text;
+use job::format;
+use table::words;
+
+pub fn put_refusal(buf: &mut [u8], at: usize, number: u32, place: usize) -> usize
+    requires { ⌜ at + 60 ≤ length (now buf) ⌝ }
+    ensures { λ r. ⌜ Put (now (buf .entry)) at (refusalLine number place) (now (buf .exit)) r ⌝ }
+{
+    let a = text::put_refused(buf, at);
+    let b = text::put_number(buf, a, number as u64);
+    let c = text::put_byte(buf, b, 32);
+    let d = text::put_number(buf, c, place as u64);
+    text::put_byte(buf, d, 10)
+}
+
+pub fn put_claim(buf: &mut [u8], at: usize, table: &[u32], c: usize) -> usize
+    requires { ⌜ 10 + 3 * c < length (now table) ⌝ }
+    requires { ⌜ at + 31 ≤ length (now buf) ⌝ }
+    ensures { λ r. ⌜ Put (now (buf .entry)) at (claimLine (now (table .entry)) c) (now (buf .exit)) r ⌝ }
+{
+    let d = text::put_number(buf, at, c as u64);
+    let e = text::put_byte(buf, d, 32);
+    let reading = words::reading_of(words::mark_at(table, c));
+    let f = text::put_reading(buf, e, reading);
+    text::put_byte(buf, f, 10)
+}
+
+pub fn put_claim_lines(buf: &mut [u8], at: usize, table: &[u32], claims: usize) -> usize
+    requires { ⌜ 8 + 3 * claims ≤ length (now table) ⌝ }
+    requires { ⌜ claims ≤ 4096 ⌝ }
+    requires { ⌜ at + 31 * claims ≤ length (now buf) ⌝ }
+    ensures { λ r. ⌜ Put (now (buf .entry)) at (flatMap (claimLine (now (table .entry))) (upto claims)) (now (buf .exit)) r ⌝ }
+{
+    let mut end = at;
+    let mut c = 0;
+    while c < claims {
+        end = put_claim(buf, end, table, c);
+        c += 1;
+    }
+    end
+}
+
+// A count of a tally.
+fn put_count(buf: &mut [u8], at: usize, n: u64) -> usize
+    requires { ⌜ at + 21 ≤ length (now buf) ⌝ }
+    ensures { λ r. ⌜ Put (now (buf .entry)) at (countText n) (now (buf .exit)) r × (r ≤ at + 21) ⌝ }
+{
+    let b = text::put_byte(buf, at, 32);
+    text::put_number(buf, b, n)
+}
+
+pub fn put_tally_line(buf: &mut [u8], at: usize, counts: &[u64; 8]) -> usize
+    requires { ⌜ length (now counts) ≡ 8 ⌝ }
+    requires { ⌜ at + 200 ≤ length (now buf) ⌝ }
+    ensures { λ r. ⌜ Put (now (buf .entry)) at (tallyLine (now (counts .entry))) (now (buf .exit)) r ⌝ }
+{
+    let mut end = text::put_tally(buf, at);
+    let mut i = 0;
+    while i < 8 {
+        end = put_count(buf, end, counts[i]);
+        i += 1;
+    }
+    text::put_byte(buf, end, 10)
+}
+
+// The line of a question that this worker asked of this claim, and whose answer reads so.
+fn put_answer(
+    buf: &mut [u8],
+    at: usize,
+    worker: usize,
+    claim: usize,
+    reading: table::Reading,
+) -> usize
+    requires { ⌜ at + 52 ≤ length (now buf) ⌝ }
+    ensures { λ r. ⌜ Put (now (buf .entry)) at (answerLine worker claim reading) (now (buf .exit)) r ⌝ }
+{
+    let b = text::put_number(buf, at, worker as u64);
+    let c = text::put_byte(buf, b, 32);
+    let d = text::put_number(buf, c, claim as u64);
+    let e = text::put_byte(buf, d, 32);
+    let f = text::put_reading(buf, e, reading);
+    text::put_byte(buf, f, 10)
+}
+
+// The line of question k.
+fn put_question(buf: &mut [u8], at: usize, job: &[u8], table: &[u32], k: usize) -> usize
+    requires { ⌜ WellFormed (now job) ⌝ }
+    requires { ⌜ used (jobOf (now job)) ≤ length (now table) ⌝ }
+    requires { ⌜ k < questions (now job) ⌝ }
+    requires { ⌜ at + 52 ≤ length (now buf) ⌝ }
+    ensures { λ r. ⌜ Put (now (buf .entry)) at (lineOf (now (job .entry)) (now (table .entry)) k) (now (buf .exit)) r ⌝ }
+{
+    let q = format::question_at(job, format::rule_count(job), format::literal_count(job), k);
+    let answers_at = words::CLAIMS_AT
+        + 3 * format::claim_count(job)
+        + 2 * format::worker_count(job);
+    let value = words::word_at(table, answers_at + k);
+    let reading = words::reading_of(255 + value);
+    put_answer(buf, at, q.worker, q.claim, reading)
+}
+
+pub fn put_question_lines(buf: &mut [u8], at: usize, job: &[u8], table: &[u32]) -> usize
+    requires { ⌜ WellFormed (now job) ⌝ }
+    requires { ⌜ used (jobOf (now job)) ≤ length (now table) ⌝ }
+    requires { ⌜ at + 52 * questions (now job) ≤ length (now buf) ⌝ }
+    ensures { λ r. ⌜ Put (now (buf .entry)) at (questionLines (jobOf (now (job .entry))) (now (table .entry)) 0 (jobOf (now (job .entry)) .questions)) (now (buf .exit)) r ⌝ }
+{
+    let questions = format::question_count(job);
+    let mut end = at;
+    let mut k = 0;
+    while k < questions {
+        end = put_question(buf, end, job, table, k);
+        k += 1;
+    }
+    end
+}
