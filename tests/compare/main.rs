@@ -1,6 +1,7 @@
 //! Compares the library's check and plain evaluation with the oracle's, call by
 //! call; exit status 1 if any differ.  `compare help` prints the commands.
 
+mod arguments;
 mod compare;
 mod faults;
 mod lengths;
@@ -11,6 +12,7 @@ use std::io::{Read, Write};
 use std::process::exit;
 use std::time::Instant;
 
+use arguments::{kinds_named, refuse};
 use compare::Totals;
 use oracle::checks::{part_input, MAX_INPUT_BYTES};
 use oracle::edges::{edge_cases, Expected};
@@ -108,18 +110,6 @@ fn compare_gate(all: &mut Totals) {
     }
 }
 
-fn kinds_named(names: &str) -> Vec<String> {
-    match names {
-        "all" => GATE.iter().map(|(kind, _)| kind.to_string()).collect(),
-        _ => names.split(',').map(str::to_string).collect(),
-    }
-}
-
-fn usage() -> ! {
-    eprint!("{USAGE}");
-    exit(2);
-}
-
 /// Prints the library's verdicts of the job on standard input; a schedule
 /// after it is left out.
 fn print_verdicts() {
@@ -155,13 +145,13 @@ fn main() {
             part(&mut all, "long outputs", lengths::long_outputs);
         }
         ["made", kinds, from, count] => {
-            let (Ok(from), Ok(count)) = (from.parse(), count.parse()) else { usage() };
-            for kind in kinds_named(kinds) {
+            let (Ok(from), Ok(count)) = (from.parse(), count.parse()) else { refuse(USAGE) };
+            for kind in kinds_named(kinds, &GATE) {
                 part(&mut all, &kind, |totals| compare_made(totals, &kind, from, count));
             }
         }
         ["verdicts"] => return print_verdicts(),
-        _ => usage(),
+        _ => refuse(USAGE),
     }
     all.summary();
     exit(i32::from(all.differences > 0));

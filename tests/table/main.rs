@@ -2,6 +2,8 @@
 //! and on every word; exit status 1 if any differ.  `table help` prints the
 //! commands.
 
+#[path = "../compare/arguments.rs"]
+mod arguments;
 mod beside;
 mod calls;
 mod lengths;
@@ -17,6 +19,7 @@ mod totals;
 use std::process::exit;
 use std::time::Instant;
 
+use arguments::{kinds_named, refuse};
 use oracle::jobs::generate;
 use totals::Totals;
 
@@ -101,18 +104,6 @@ fn compare_gate(all: &mut Totals) {
     all.expect_all_met();
 }
 
-fn kinds_named(names: &str) -> Vec<String> {
-    match names {
-        "all" => GATE.iter().map(|(kind, _)| kind.to_string()).collect(),
-        _ => names.split(',').map(str::to_string).collect(),
-    }
-}
-
-fn usage() -> ! {
-    eprint!("{USAGE}");
-    exit(2);
-}
-
 fn main() {
     let arguments: Vec<String> = std::env::args().skip(1).collect();
     let words: Vec<&str> = arguments.iter().map(String::as_str).collect();
@@ -121,17 +112,17 @@ fn main() {
         [] => compare_gate(&mut all),
         ["lengths"] => compare_lengths(&mut all),
         ["made", kinds, from, count, rest @ ..] => {
-            let (Ok(from), Ok(count)) = (from.parse(), count.parse()) else { usage() };
+            let (Ok(from), Ok(count)) = (from.parse(), count.parse()) else { refuse(USAGE) };
             let work = match rest {
                 [] => GATE_WORK,
                 ["whole"] => usize::MAX,
-                _ => usage(),
+                _ => refuse(USAGE),
             };
-            for kind in kinds_named(kinds) {
+            for kind in kinds_named(kinds, &GATE) {
                 part(&mut all, &kind, |totals| compare_made(totals, &kind, from, count, work));
             }
         }
-        _ => usage(),
+        _ => refuse(USAGE),
     }
     all.summary();
     exit(i32::from(all.differences > 0));
