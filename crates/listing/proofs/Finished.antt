@@ -2,13 +2,14 @@
 --   cycle j n w         n turns from worker w on, over and over
 --   stopped             the finishing turns stop because all is answered, or are all those of the cycle
 --   cycle-rounds        k * T turns from worker 0 on are k rounds
+--   low-finish          the finishing turns are of the job's workers
 --   all-is, all-each    all is answered by the words, as a test and by worker
 --   finished            after the turns ws from a fresh start, the finishing turns answer all; finished-in   the same, ws by its members
 use Prim.Native.Nat.{ℕ, zero, suc, _+_, _*_, _<_, _≤_}
 use mathlib.Core.Path.{_≡_, refl, sym, _∙_, ap, subst}
 use mathlib.Core.Bool.{Bool, true, false}
 use mathlib.Core.Logic.{_⊎_, inl, inr, ⊎-elim}
-use mathlib.Core.List.{List, [], _∷_, _++_, append-assoc, List·Memᴰ·not-nil, List·Memᴰ·cases-cons, List·Memᴰ·append-cases, Memᴰ·append-right}
+use mathlib.Core.List.{List, [], _∷_, _++_, append-assoc, List·Memᴰ·not-nil, List·Memᴰ·cases-cons, Memᴰ·append-right}
 use native.Mathlib.Omega.{arith}
 use native.Mathlib.Nat.{suc-mul, eq-or-lt-of-le}
 use borrow.Author.Tests.{eq-eqb, ne-eqb, le-leb, leb-true}
@@ -34,6 +35,7 @@ use Rattle.turns.proofs.Runs.{Low}
 use Rattle.turns.proofs.Promise.{rounds}
 use Rattle.turns.proofs.Bounds.{bound-is}
 use Rattle.turns.proofs.OnLists.{valid, ok}
+use Rattle.turns.proofs.Histories.{run-append, low-append, low-all}
 use Rattle.listing.specs.Finish.{answeredAll, nextWorker, finishTurns, most, Finished}
 use Rattle.listing.proofs.Finishing.{done}
 
@@ -53,11 +55,6 @@ module _ (j : Job) (t : List ℕ) where
       (is-true (done j t w) (every-in (done j t) (upto (j .workers)) (is (every (done j t) (upto (j .workers))) e) w (in-upto w (j .workers) h)))
 
 module _ (j : Job) where
-  run-append : (ws us t : List ℕ) → runTable j t (ws ++ us) ≡ runTable j (runTable j t ws) us
-  unfolding runTable
-  run-append [] us t = refl
-  run-append (w ∷ ws) us t = run-append ws us (turn j t w .table)
-
   unfoldable cycle : ℕ → ℕ → List ℕ
   cycle zero w = []
   cycle (suc n) w = w ∷ cycle n (nextWorker j w)
@@ -108,31 +105,26 @@ module _ (j : Job) where
       subst (Rounds (j .workers) (suc k)) (sym (ap (λ (n : ℕ). cycle n 0) e ∙ whole-round (k * j .workers) h))
       (round (upto (j .workers)) (λ w l. span-at (λ k. k) 0 (j .workers) w (omega arith) (omega arith)) (cycle-rounds h k))
 
-  low-cycle : (n w : ℕ) → w < j .workers → Low j (cycle n w)
-  unfolding cycle
-  low-cycle zero w h v i = absurd (List·Memᴰ·not-nil i)
-  low-cycle (suc n) w h v i =
-      ⊎-elim (λ e. omega (arith, e)) (low-cycle n (nextWorker j w) (next-low w h) v) (List·Memᴰ·cases-cons i)
+  next-low : (w : ℕ) → w < j .workers → nextWorker j w < j .workers
+  next-low w h = ⊎-elim (λ e. omega (arith, wraps w (omega arith))) (λ l. omega (arith, climbs w l)) (eq-or-lt-of-le h)
+
+  pub low-finish : (n : ℕ) (t : List ℕ) (w : ℕ) → w < j .workers → Low j (finishTurns n j t w)
+  unfolding finishTurns pick
+  low-finish zero t w h = λ v i. absurd (List·Memᴰ·not-nil i)
+  low-finish (suc n) t w h = go (answeredAll j t) (low-finish n (turn j t w .table) (nextWorker j w) (next-low w h))
     where
-      next-low : (w : ℕ) → w < j .workers → nextWorker j w < j .workers
-      next-low w h = ⊎-elim (λ e. omega (arith, wraps w e)) (λ l. omega (arith, climbs w l)) (last w h)
-        where
-          last : (w : ℕ) → w < j .workers → (w + 1 ≡ j .workers) ⊎ (suc w < j .workers)
-          last w h = ⊎-elim (λ e. inl (omega arith)) (λ l. inr l) (eq-or-lt-of-le h)
+      rest : List ℕ
+      rest = finishTurns n j (turn j t w .table) (nextWorker j w)
+
+      go : (b : Bool) → Low j rest → Low j (pick b [] (w ∷ rest))
+      go true l v i = absurd (List·Memᴰ·not-nil i)
+      go false l v i = ⊎-elim (λ e. omega (arith, e)) (l v) (List·Memᴰ·cases-cons i)
 
 -- turns before the rounds make the first round longer
 after-turns : {T k : ℕ} (ws us : List ℕ) → Rounds T k us → Rounds T k (ws ++ us)
 after-turns ws us none = none
 after-turns {T} ws us (round {k} r {ws = vs} f rest) =
     subst (Rounds T (suc k)) (append-assoc ws r vs) (round (ws ++ r) (λ w l. Memᴰ·append-right ws (f w l)) rest)
-
-low-append : (j : Job) (ws us : List ℕ) → Low j ws → Low j us → Low j (ws ++ us)
-low-append j ws us a b v i = ⊎-elim (λ m. a v m) (λ m. b v m) (List·Memᴰ·append-cases ws i)
-
-low-at : (j : Job) (ws : List ℕ) → ((i : ℕ) → i < length ws → getD ws i 0 < j .workers) → Low j ws
-low-at j [] f v i = absurd (List·Memᴰ·not-nil i)
-low-at j (w ∷ ws) f v i =
-    ⊎-elim (λ e. let l = f 0 (omega arith) in omega (arith, e)) (low-at j ws (λ k l. f (suc k) (omega arith)) v) (List·Memᴰ·cases-cons i)
 
 module _ (s : List ℕ) (e : Accepted ≡ checkJob s) (t : List ℕ) (room : Fresh s t) (ws : List ℕ) where
   abbrev start : List ℕ
@@ -148,7 +140,7 @@ module _ (s : List ℕ) (e : Accepted ≡ checkJob s) (t : List ℕ) (room : Fre
   by-rounds low q =
       let some : 1 ≤ jobOf s .workers = valid s e .workersLeast in
       let r : Rounds (jobOf s .workers) (bound (jobOf s)) (ws ++ last) = after-turns ws last (subst (Rounds (jobOf s .workers) (bound (jobOf s))) (sym q) (cycle-rounds (jobOf s) some (bound (jobOf s)))) in
-      let l : Low (jobOf s) (ws ++ last) = low-append (jobOf s) ws last low (subst (Low (jobOf s)) (sym q) (low-cycle (jobOf s) (most (jobOf s)) 0 some)) in
+      let l : Low (jobOf s) (ws ++ last) = low-append (jobOf s) ws last low (low-finish (jobOf s) (most (jobOf s)) turned 0 some) in
       all-is (jobOf s) (runTable (jobOf s) start (ws ++ last))
       (λ w h.
       omega (arith, rounds (jobOf s) (ok s e) start (start-started (jobOf s) t room) (ws ++ last) l (subst (λ (n : ℕ). Rounds (jobOf s .workers) n (ws ++ last)) (sym (bound-is (jobOf s) (valid s e))) r) w h))
@@ -161,4 +153,4 @@ pub finished-in : (s : List ℕ) → Accepted ≡ checkJob s → (t : List ℕ) 
 finished-in = answers-all
 
 pub finished : (s : List ℕ) → Accepted ≡ checkJob s → Finished s
-finished s e t room ws low = finished-in s e t room ws (low-at (jobOf s) ws low)
+finished s e t room ws low = finished-in s e t room ws (low-all (jobOf s) ws low)

@@ -6,14 +6,11 @@ use Prim.Native.Nat.{ℕ, zero, suc, _+_, _-_, _*_, _<_, _≤_}
 use mathlib.Core.Path.{_≡_, refl, sym, _∙_, ap, ap₂}
 use mathlib.Core.Bool.{Bool, true, false}
 use mathlib.Core.List.{List, [], _∷_}
-use mathlib.Core.Logic.{by-cases}
 use native.Mathlib.Omega.{arith}
 use native.Mathlib.Nat.{mul-le-mul-right}
-use native.Mathlib.Decide.{ℕ-discrete, decLt}
 use borrow.Author.Tests.{eq-eqb, ne-eqb, le-leb, lt-leb}
 use lib.Dec.{leb}
 use lib.ListN.{length, getD, set}
-use lib.Seq.{getD-set-same, getD-set-other, set-out}
 use Rattle.base.specs.Choose.{pick}
 use Rattle.base.specs.Span.{span}
 use Rattle.base.specs.Lists.{every}
@@ -34,6 +31,7 @@ use Rattle.turns.proofs.Jobs.{job-ok}
 use Rattle.turns.proofs.Range.{turn-in-range}
 use Rattle.turns.proofs.Lengths.{turn-length}
 use Rattle.turns.proofs.Sweeps.{and-on, and-off}
+use Rattle.turns.proofs.Tallies.{one-more}
 use Rattle.listing.specs.Finish.{answeredAll, nextWorker, finishTurns, most}
 
 abbrev pub done : Job → List ℕ → ℕ → Bool
@@ -100,15 +98,6 @@ module _ (j : Job) (t : List ℕ) where
       let f : n ≡ suc n - 1 = omega arith in
       rw (sym e) (ap (λ (k : ℕ). w ∷ finishTurns k j (turn j t w .table) (nextWorker j w)) f)
 
--- one count more
-more : (counts : List ℕ) (k d : ℕ) → getD (set counts k (getD counts k 0 + 1)) d 0 ≤ getD counts d 0 + 1
-more counts k d =
-    by-cases (ℕ-discrete d k)
-    (λ e.
-    by-cases (decLt k (length counts)) (λ l. rw (e, getD-set-same counts k (getD counts k 0 + 1) 0 l) (omega arith))
-    (λ l. rw (set-out counts k (getD counts k 0 + 1) (omega arith)) (omega arith)))
-    (λ n. rw (getD-set-other counts k d (getD counts k 0 + 1) 0 n) (omega arith))
-
 abbrev pub finishing : List ℕ → List ℕ → List ℕ
 finishing s t = finishTurns (most (jobOf s)) (jobOf s) t 0
 
@@ -156,7 +145,7 @@ module _ (s t₀ counts₀ : List ℕ) (good : WellFormed s) where
             range = rw (made .tableIs) (turn-in-range (job-ok s good) (p .range) (p .low));
             long = ap length (made .tableIs) ∙ (turn-length _ _ _ ∙ p .long);
             low = after .1;
-            small = λ k. rw count (omega (arith, more counts (kindNumber kind) k, p .small k));
+            small = λ k. rw count (omega (arith, one-more counts (kindNumber kind) k, p .small k));
             tables = p .tables ∙ (ap (runTable (jobOf s) t) first ∙ ap₂ (λ (x : List ℕ) (y : ℕ). runTable (jobOf s) x (finishTurns (left - 1) (jobOf s) x y)) (sym (made .tableIs)) (sym (after .0)));
             tallies =
                 p .tallies

@@ -4,3 +4,7 @@ pub mod Digits
 pub mod Runs
 pub mod Finishing
 pub mod Finished
+pub mod Page
+pub mod Playing
+pub mod Accepting
+pub mod Shown

@@ -2,3 +2,4 @@ pub mod Text
 pub mod Laws
 pub mod Finish
 pub mod Listing
+pub mod Told

@@ -7,9 +7,11 @@
 --   questionLines      the lines of questions, from question k on
 --   lineOf s t k       the line of question k, from the job's bytes s
 --   countText n        a count of the tally
+--   heading word n     a heading: its word and a count
 --   textOf j t ns      the text of job j whose table is t at the end, with the tally ns
 --   played s ws        the turns of a listing: those of the schedule, then those that finish
 --   listing i          the whole text
+--   roomLength, roomBytes   the text's length, and the bytes of the buffer that it was written into
 use Prim.Native.Nat.{ℕ, _+_, _*_}
 use mathlib.Core.List.{List, [], _∷_, _++_, flatMap}
 use lib.ListN.{length, getD, take, drop, replicate}
@@ -30,7 +32,7 @@ use Rattle.table.specs.Start.{startWords}
 use Rattle.table.specs.Reading.{readingOf}
 use Rattle.turns.specs.Turn.{runTable, runKinds}
 use Rattle.turns.specs.Calls.{checkSchedule, tally}
-use Rattle.listing.specs.Text.{decimal, blank, lineEnd, claimsWord, questionsWord, tallyWord, refusedWord, nameOf}
+use Rattle.listing.specs.Text.{decimal, blank, lineEnd, claimsWord, questionsWord, tallyWord, refusedWord, nameOf, wrote}
 use Rattle.listing.specs.Finish.{finishTurns, most}
 
 -- "Standard input holds a job, then schedule bytes; the first word says where the job ends; where it is absent or above the input's length, all input counts as job."
@@ -78,15 +80,14 @@ abbrev pub tallyLine : List ℕ → List ℕ
 tallyLine ns = tallyWord ++ flatMap countText ns ++ (lineEnd ∷ [])
 
 -- "The two headings carry A and Q."
+abbrev pub heading : List ℕ → ℕ → List ℕ
+heading word n = word ++ decimal n ++ (lineEnd ∷ [])
+
 unfoldable pub textOf : Job → List ℕ → List ℕ → List ℕ
 textOf j t ns =
-    claimsWord
-    ++ decimal (j .claims)
-    ++ (lineEnd ∷ [])
+    heading claimsWord (j .claims)
     ++ flatMap (claimLine t) (upto (j .claims))
-    ++ questionsWord
-    ++ decimal (length (j .questions))
-    ++ (lineEnd ∷ [])
+    ++ heading questionsWord (length (j .questions))
     ++ questionLines j t 0 (j .questions)
     ++ tallyLine ns
 
@@ -105,3 +106,10 @@ listingIf (Refused number place) i = refusalLine number place
 
 unfoldable pub listing : List ℕ → List ℕ
 listing i = listingIf (listingCheck i) i
+
+-- What a listing leaves where it is lent `out`: the text at its start; where `out` may be too short for some text, as it was.
+unfoldable pub roomLength : List ℕ → List ℕ → ℕ
+roomLength i out = pick (under (length out) 196608) 0 (length (listing i))
+
+unfoldable pub roomBytes : List ℕ → List ℕ → List ℕ
+roomBytes i out = pick (under (length out) 196608) out (wrote out 0 (listing i))

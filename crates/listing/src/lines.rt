@@ -8,8 +8,8 @@ ghost use Rattle.base.specs.Lists.{upto};
 ghost use Rattle.job.specs.Accepted.{WellFormed};
 ghost use Rattle.job.specs.Format.{jobOf, questions};
 ghost use Rattle.table.specs.Layout.{used};
-ghost use Rattle.listing.specs.Text.{Put};
-ghost use Rattle.listing.specs.Listing.{refusalLine, claimLine, countText, tallyLine, answerLine, lineOf, questionLines};
+ghost use Rattle.listing.specs.Text.{Put, claimsWord, questionsWord};
+ghost use Rattle.listing.specs.Listing.{refusalLine, claimLine, countText, tallyLine, answerLine, lineOf, questionLines, heading, textOf};
 use crate::text;
 use job::format;
 use table::words;
@@ -41,7 +41,7 @@ pub fn put_claim_lines(buf: &mut [u8], at: usize, table: &[u32], claims: usize) 
     requires { ⌜ 8 + 3 * claims ≤ length (now table) ⌝ }
     requires { ⌜ claims ≤ 4096 ⌝ }
     requires { ⌜ at + 31 * claims ≤ length (now buf) ⌝ }
-    ensures { λ r. ⌜ Put (now (buf .entry)) at (flatMap (claimLine (now (table .entry))) (upto claims)) (now (buf .exit)) r ⌝ }
+    ensures { λ r. ⌜ Put (now (buf .entry)) at (flatMap (claimLine (now (table .entry))) (upto claims)) (now (buf .exit)) r × (r ≤ at + 31 * claims) ⌝ }
 {
     let mut end = at;
     let mut c = 0;
@@ -115,7 +115,7 @@ pub fn put_question_lines(buf: &mut [u8], at: usize, job: &[u8], table: &[u32]) 
     requires { ⌜ WellFormed (now job) ⌝ }
     requires { ⌜ used (jobOf (now job)) ≤ length (now table) ⌝ }
     requires { ⌜ at + 52 * questions (now job) ≤ length (now buf) ⌝ }
-    ensures { λ r. ⌜ Put (now (buf .entry)) at (questionLines (jobOf (now (job .entry))) (now (table .entry)) 0 (jobOf (now (job .entry)) .questions)) (now (buf .exit)) r ⌝ }
+    ensures { λ r. ⌜ Put (now (buf .entry)) at (questionLines (jobOf (now (job .entry))) (now (table .entry)) 0 (jobOf (now (job .entry)) .questions)) (now (buf .exit)) r × (r ≤ at + 52 * questions (now (job .entry))) ⌝ }
 {
     let questions = format::question_count(job);
     let mut end = at;
@@ -125,4 +125,40 @@ pub fn put_question_lines(buf: &mut [u8], at: usize, job: &[u8], table: &[u32]) 
         k += 1;
     }
     end
+}
+
+// The heading of the claim lines.
+fn put_claim_heading(buf: &mut [u8], at: usize, claims: usize) -> usize
+    requires { ⌜ at + 31 ≤ length (now buf) ⌝ }
+    ensures { λ r. ⌜ Put (now (buf .entry)) at (heading claimsWord claims) (now (buf .exit)) r × (r ≤ at + 31) ⌝ }
+{
+    let a = text::put_claims(buf, at);
+    let b = text::put_number(buf, a, claims as u64);
+    text::put_byte(buf, b, 10)
+}
+
+// The heading of the question lines.
+fn put_question_heading(buf: &mut [u8], at: usize, questions: usize) -> usize
+    requires { ⌜ at + 31 ≤ length (now buf) ⌝ }
+    ensures { λ r. ⌜ Put (now (buf .entry)) at (heading questionsWord questions) (now (buf .exit)) r × (r ≤ at + 31) ⌝ }
+{
+    let a = text::put_questions(buf, at);
+    let b = text::put_number(buf, a, questions as u64);
+    text::put_byte(buf, b, 10)
+}
+
+// The whole text of an accepted job, from its table and tally at the end.
+pub fn put_text(buf: &mut [u8], job: &[u8], table: &[u32], counts: &[u64; 8]) -> usize
+    requires { ⌜ WellFormed (now job) ⌝ }
+    requires { ⌜ used (jobOf (now job)) ≤ length (now table) ⌝ }
+    requires { ⌜ length (now counts) ≡ 8 ⌝ }
+    requires { ⌜ 196608 ≤ length (now buf) ⌝ }
+    ensures { λ r. ⌜ Put (now (buf .entry)) 0 (textOf (jobOf (now (job .entry))) (now (table .entry)) (now (counts .entry))) (now (buf .exit)) r ⌝ }
+{
+    let claims = format::claim_count(job);
+    let a = put_claim_heading(buf, 0, claims);
+    let b = put_claim_lines(buf, a, table, claims);
+    let c = put_question_heading(buf, b, format::question_count(job));
+    let d = put_question_lines(buf, c, job, table);
+    put_tally_line(buf, d, counts)
 }

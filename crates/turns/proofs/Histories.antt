@@ -1,4 +1,6 @@
 -- A list of calls is its turns: what it leaves and what it tells are those of the run of the turns it makes. Assumes nothing.
+--   run-append, kinds-append, events-append   one run after another
+--   low-append, low-all   turns that are of the job's workers
 --   turns-low     every turn made is one of the job's workers
 --   after-turns   the table after the list is that after its turns; events-turns   its events are theirs
 use mathlib.Core.Path.{_≡_, refl, sym, _∙_, ap, subst}
@@ -13,17 +15,23 @@ use Rattle.job.specs.Format.{jobOf}
 use Rattle.job.specs.declared.Check.{Check}
 use Rattle.job.specs.declared.Check.the-variants.{Accepted, Refused}
 use Rattle.job.proofs.Rows.{both, row-no, scan-all}
-use Rattle.turns.specs.Turn.{turn, runTable}
+use Rattle.turns.specs.Turn.{turn, runTable, runKinds}
+use Rattle.turns.specs.declared.Kind.{Kind}
 use Rattle.turns.specs.Calls.{checkTurnWorker, checkSchedule, turnCheck, turnTable, runCheck, runLeft}
 use Rattle.turns.specs.Lists.{Call, turning, running, reading, left, after, unless, made, turnsOf, Event, runEvents, events}
 use Rattle.turns.proofs.Runs.{Low}
 
 -- one run after another
 module _ (j : Job) where
-  run-append : (ws us t : List ℕ) → runTable j t (ws ++ us) ≡ runTable j (runTable j t ws) us
+  pub run-append : (ws us t : List ℕ) → runTable j t (ws ++ us) ≡ runTable j (runTable j t ws) us
   unfolding runTable
   run-append [] us t = refl
   run-append (w ∷ ws) us t = run-append ws us (turn j t w .table)
+
+  pub kinds-append : (ws us t : List ℕ) → runKinds j t (ws ++ us) ≡ runKinds j t ws ++ runKinds j (runTable j t ws) us
+  unfolding runTable runKinds
+  kinds-append [] us t = refl
+  kinds-append (w ∷ ws) us t = ap (λ (ks : List Kind). turn j t w .kind ∷ ks) (kinds-append ws us (turn j t w .table))
 
   events-append : (ws us t : List ℕ) → runEvents j t (ws ++ us) ≡ runEvents j t ws ++ runEvents j (runTable j t ws) us
   unfolding runTable runEvents
@@ -31,7 +39,7 @@ module _ (j : Job) where
   events-append (w ∷ ws) us t =
       ap (λ (es : List Event). record { worker = w; kind = turn j t w .kind; table = turn j t w .table } ∷ es) (events-append ws us (turn j t w .table))
 
-  low-append : (ws us : List ℕ) → Low j ws → Low j us → Low j (ws ++ us)
+  pub low-append : (ws us : List ℕ) → Low j ws → Low j us → Low j (ws ++ us)
   low-append [] us a b v i = b v i
   low-append (w ∷ ws) us a b v i =
       ⊎-elim (λ e. a v (List·Memᴰ·head e)) (low-append ws us (λ u m. a u (List·Memᴰ·tail m)) b v) (List·Memᴰ·cases-cons i)
@@ -42,7 +50,7 @@ module _ (j : Job) where
   low-one : (w : ℕ) → w < j .workers → Low j (w ∷ [])
   low-one w h v i = ⊎-elim (λ e. subst (λ (u : ℕ). u < j .workers) (sym e) h) (λ n. absurd (List·Memᴰ·not-nil n)) (List·Memᴰ·cases-cons i)
 
-  low-all : (ws : List ℕ) → ((i : ℕ) → i < length ws → getD ws i 0 < j .workers) → Low j ws
+  pub low-all : (ws : List ℕ) → ((i : ℕ) → i < length ws → getD ws i 0 < j .workers) → Low j ws
   low-all [] f = low-none
   low-all (w ∷ ws) f = low-append (w ∷ []) ws (low-one w (f 0 (omega arith))) (low-all ws (λ i l. f (suc i) (omega arith)))
 

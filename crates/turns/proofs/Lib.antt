@@ -39,6 +39,7 @@ pub mod Bounds
 pub mod Bounded
 pub mod Cursors
 pub mod Completing
+pub mod Tallies
 pub mod Running
 pub mod Histories
 pub mod Answers

@@ -1,13 +1,11 @@
 -- A run, turn by turn: what is still to come makes of the table and the tally what all of the schedule makes of them. Assumes nothing.
-use Prim.Native.Nat.{ℕ, zero, suc, _+_, _-_, _<_, _≤_}
+use Prim.Native.Nat.{ℕ, _+_, _<_, _≤_}
 use mathlib.Core.Path.{_≡_, refl, sym, _∙_, ap, ap₂}
 use mathlib.Core.List.{List, [], _∷_}
-use mathlib.Core.Logic.{by-cases}
 use native.Mathlib.Omega.{arith}
 use native.Mathlib.Numerals.{add-one}
-use native.Mathlib.Decide.{ℕ-discrete, decLt}
 use lib.ListN.{length, getD, set, drop, replicate}
-use lib.Seq.{drop-cons, drop-length, getD-set-same, getD-set-other, set-out}
+use lib.Seq.{drop-cons, drop-length}
 use Rattle.job.specs.Format.{workers, jobOf}
 use Rattle.job.specs.Accepted.{WellFormed}
 use Rattle.table.specs.Ranges.{InRange}
@@ -18,6 +16,7 @@ use Rattle.turns.specs.declared.Kind.{Kind}
 use Rattle.turns.proofs.Jobs.{job-ok}
 use Rattle.turns.proofs.Range.{turn-in-range}
 use Rattle.turns.proofs.Lengths.{turn-length}
+use Rattle.turns.proofs.Tallies.{zeros, one-more}
 
 -- after i turns of the schedule ws, the table t₀ is t, and the tally is counts
 pub record Partly (s t₀ ws : List ℕ) (i : ℕ) (t counts : List ℕ) : Type 0 where
@@ -27,11 +26,6 @@ pub record Partly (s t₀ ws : List ℕ) (i : ℕ) (t counts : List ℕ) : Type 
   pub tables : runTable (jobOf s) t₀ ws ≡ runTable (jobOf s) t (drop i ws)
   pub tallies : tally (runKinds (jobOf s) t₀ ws) ≡ counted counts (runKinds (jobOf s) t (drop i ws))
   pub small : (k : ℕ) → getD counts k 0 ≤ i
-
-zeros : (n k : ℕ) → _≡_ {A = ℕ} (getD (replicate n 0) k 0) 0
-zeros zero k = refl
-zeros (suc n) zero = refl
-zeros (suc n) (suc k) = zeros n k
 
 module _ (s t₀ ws : List ℕ) where
   pub partly-none : InRange (jobOf s) t₀ → {counts : List ℕ} → counts ≡ replicate 8 0 → Partly s t₀ ws 0 t₀ counts
@@ -46,15 +40,6 @@ module _ (s t₀ ws : List ℕ) where
         small = λ k. omega (arith, ap (λ (x : List ℕ). getD x k 0) e, zeros 8 k);
       }
 
-  -- one count more
-  more : (counts : List ℕ) (k i d : ℕ) → ((d : ℕ) → getD counts d 0 ≤ i) → getD (set counts k (getD counts k 0 + 1)) d 0 ≤ i + 1
-  more counts k i d h =
-      by-cases (ℕ-discrete d k)
-      (λ e.
-      by-cases (decLt k (length counts)) (λ l. rw (e, getD-set-same counts k (getD counts k 0 + 1) 0 l) (omega (arith, h k)))
-      (λ l. rw (set-out counts k (getD counts k 0 + 1) (omega arith)) (omega (arith, h d))))
-      (λ n. rw (getD-set-other counts k d (getD counts k 0 + 1) 0 n) (omega (arith, h d)))
-
   module _ (good : WellFormed s) {i : ℕ} {t counts : List ℕ} (p : Partly s t₀ ws i t counts) (some : i < length ws) {w : ℕ} (named : w ≡ getD ws i 0) (low : w < workers s) {kind : Kind} {u next : List ℕ} (made : Made (turn (jobOf s) t w) kind u) (count : next ≡ set counts (kindNumber kind) (getD counts (kindNumber kind) 0 + 1)) where
     first : drop i ws ≡ w ∷ drop (i + 1) ws
     first = drop-cons ws i 0 some ∙ ap₂ (λ (x y : ℕ). x ∷ drop y ws) (sym named) (sym (add-one i))
@@ -68,7 +53,7 @@ module _ (s t₀ ws : List ℕ) where
           long = ap length (made .tableIs) ∙ (turn-length _ _ _ ∙ p .long);
           tables = p .tables ∙ (ap (runTable (jobOf s) t) first ∙ ap (λ (x : List ℕ). runTable (jobOf s) x (drop (i + 1) ws)) (sym (made .tableIs)));
           tallies = p .tallies ∙ (ap (λ (x : List ℕ). counted counts (runKinds (jobOf s) t x)) first ∙ (ap₂ (λ (k : Kind) (x : List ℕ). counted (set counts (kindNumber k) (getD counts (kindNumber k) 0 + 1)) (runKinds (jobOf s) x (drop (i + 1) ws))) (sym (made .kindIs)) (sym (made .tableIs)) ∙ ap (λ (x : List ℕ). counted x (runKinds (jobOf s) u (drop (i + 1) ws))) (sym count)));
-          small = λ k. rw count (more counts (kindNumber kind) i k (p .small));
+          small = λ k. rw count (omega (arith, one-more counts (kindNumber kind) k, p .small k));
         }
 
   pub partly-all : {i : ℕ} {t counts : List ℕ} → Partly s t₀ ws i t counts → length ws ≤ i → (counts ≡ tally (runKinds (jobOf s) t₀ ws)) × (t ≡ runTable (jobOf s) t₀ ws)

@@ -7,7 +7,7 @@ mod newest;
 mod owners;
 mod passing;
 mod questions;
-mod schedule;
+pub mod schedule;
 mod stores;
 pub mod tally;
 pub mod turn;

@@ -1,11 +1,11 @@
 -- `listing::input::check_input` meets its contract. Assumes nothing.
-use Prim.Native.Nat.{ℕ, _-_}
+use Prim.Native.Nat.{ℕ}
 use mathlib.Core.List.{List}
 use mathlib.Core.Path.{_≡_, sym, ap, _∙_}
 use native.Mathlib.Omega.{arith}
 use borrow.Author.Needs.{needs}
-use lib.ListN.{length, take, drop, length-drop}
-use lib.Seq.{length-take-le, take-length}
+use lib.ListN.{take, drop}
+use lib.Seq.{length-take-le}
 use Rattle.base.proofs.Compare.{over-yes, over-no}
 use Rattle.job.specs.Rows.{_⨾_}
 use Rattle.job.specs.Checks.{checkJob}
@@ -13,11 +13,9 @@ use Rattle.job.specs.declared.Check.{Check}
 use Rattle.job.proofs.Rows.{pass, stop}
 use Rattle.turns.specs.Calls.{checkSchedule}
 use Rattle.listing.specs.Listing.{listingCheck}
+use Rattle.listing.proofs.Accepting.{rest}
 use Rattle.listing.proofs.input.check_input.Statement.{statement}
 use Rattle.listing.proofs.input.check_input.Tie as tie
-
-rest : (end : ℕ) (i : List ℕ) → take (length i - end) (drop end i) ≡ drop end i
-rest end i = ap (λ (k : ℕ). take k (drop end i)) (sym (length-drop end i)) ∙ take-length (drop end i)
 
 returns : tie.Need-returns
 unfolding listingCheck

@@ -36,7 +36,7 @@ same-length c = run-size (omega arith) (c .before .loop .inv .1)
 returns : tie.Need-returns Inv-loop μ-loop
 returns c =
     let e : c .before .loop .c ≡ c .before .before .before .before .args .claims = omega arith in
-    rw e at (c .before .loop .inv .1 .put)
+    (rw e at (c .before .loop .inv .1 .put), omega (arith, c .before .loop .inv .1 .few, c .before .loop .inv .1 .put .next))
 
 pub put-claim-lines-spec : {M : Type 1} → statement M
 put-claim-lines-spec =

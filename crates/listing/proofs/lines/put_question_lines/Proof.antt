@@ -39,7 +39,10 @@ same-length : tie.Need-same-length Inv-loop μ-loop
 same-length c = run-size (omega arith) (c .before .loop .inv .2)
 
 returns : tie.Need-returns Inv-loop μ-loop
-returns c = first-whole (c .before .before .before .before .before .before .args .job .now) (c .before .before .before .before .before .before .args .table .now) (omega arith) (c .before .loop .inv .2 .put)
+returns c =
+    let a = c .before .before .before .before .before .before .args in
+    let l = c .before .loop .inv .2 in
+    (first-whole (a .job .now) (a .table .now) (omega arith) (l .put), omega (arith, l .few, l .put .next))
 
 pub put-question-lines-spec : {M : Type 1} → statement M
 put-question-lines-spec =

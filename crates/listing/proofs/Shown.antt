@@ -1,0 +1,217 @@
+-- What the lines of a listing show: the well-founded model of the whole job. Assumes nothing.
+--   AtPlace, placed-span   question i stands among its worker's questions
+--   named-unopened         a mark that is not complete is shown as unopened
+--   answer-shown, claim-shown, claim-hidden   the words of questions and claims, once all turns are played
+--   told                   specs/Told, of every input
+use Prim.Native.Nat.{ℕ, zero, suc, _+_, _≤_, _<_}
+use mathlib.Core.Path.{_≡_, refl, sym, _∙_, ap, subst}
+use mathlib.Core.Bool.{Bool, true, false}
+use mathlib.Core.Logic.{by-cases}
+use mathlib.Core.List.{List, [], _∷_, _++_, flatMap}
+use native.Mathlib.Omega.{arith}
+use native.Mathlib.Decide.{ℕ-discrete, decLe}
+use borrow.Author.Tests.{eq-eqb, ne-eqb}
+use lib.Dec.{eqb}
+use lib.ListN.{length, getD, replicate, length-append, length-replicate}
+use Rattle.base.specs.Choose.{pick}
+use Rattle.base.specs.Span.{span}
+use Rattle.base.specs.Lists.{upto}
+use Rattle.job.specs.Job.{Job}
+use Rattle.job.specs.Checks.{checkJob}
+use Rattle.job.specs.Format.{rules, literals, questions, questionAt, jobOf}
+use Rattle.job.specs.declared.Check.{Check}
+use Rattle.job.specs.declared.Check.the-variants.{Accepted, Refused}
+use Rattle.job.specs.declared.Question.{Question}
+use Rattle.job.proofs.Accepted.{well-formed}
+use Rattle.job.proofs.Written.{questions-count}
+use Rattle.model.specs.Model.{programOf, verdict, byteOf}
+use Rattle.table.specs.Questions.{positionsOf, askedBy, claimAsked, questionClaim}
+use Rattle.table.specs.Layout.{used, mark, markOf, answered, answerWord}
+use Rattle.table.specs.Start.{startWords}
+use Rattle.table.specs.Reading.{readingOf}
+use Rattle.turns.specs.Turn.{runTable}
+use Rattle.turns.specs.Promise.{Fresh, Asked}
+use Rattle.turns.proofs.Starting.{start-started}
+use Rattle.turns.proofs.Runs.{Low, Made, made-start, made-run}
+use Rattle.turns.proofs.Promise.{only-led, all-led}
+use Rattle.turns.proofs.Named.{led-asked, asked-led}
+use Rattle.turns.proofs.OnLists.{valid, ok}
+use Rattle.turns.proofs.Histories.{low-append, low-all}
+use Rattle.listing.specs.Text.{decimal, blank, lineEnd, claimsWord, questionsWord, refusedWord, nameOf, unopenedName}
+use Rattle.listing.specs.Finish.{finishTurns, most}
+use Rattle.listing.specs.Listing.{jobPart, schedulePart, listingCheck, refusalLine, claimLine, questionLines, tallyLine, heading, textOf, answerLine, lineOf, played, listed, listingIf, listing}
+use Rattle.listing.specs.Told.{Told, lastTable, questionOf}
+use Rattle.listing.proofs.Finished.{all-each, low-finish, finished-in}
+use Rattle.listing.proofs.Accepting.{AcceptedInput, accepted-input}
+
+-- question i of a list, among those of its worker
+record AtPlace (ps : List ℕ) (p : ℕ) : Type 0 where
+  at : ℕ
+  real : at < length ps
+  is : getD ps at 0 ≡ p
+
+later : (b : Bool) (ps : List ℕ) (k p : ℕ) → AtPlace ps p → AtPlace (pick b (k ∷ ps) ps) p
+unfolding pick
+later true ps k p a = record { at = suc (a .at); real = omega (arith, a .real); is = a .is }
+later false ps k p a = a
+
+first : (k : ℕ) (ps : List ℕ) → AtPlace (pick true (k ∷ ps) ps) (k + 0)
+unfolding pick
+first k ps = record { at = 0; real = omega arith; is = omega arith }
+
+module _ (f : ℕ → Question) where
+  placed-span : (n a k i w : ℕ) → i < n → f (a + i) .worker ≡ w → AtPlace (positionsOf (span f a n) k w) (k + i)
+  unfolding span positionsOf
+  placed-span zero a k i w h e = absurd (omega arith)
+  placed-span (suc n) a k zero w h e =
+      let z : a + 0 ≡ a = omega arith in
+      let q : eqb (f a .worker) w ≡ true = eq-eqb (f a .worker) w (ap (λ (x : ℕ). f x .worker) (sym z) ∙ e) in
+      subst (λ (b : Bool). AtPlace (pick b (k ∷ positionsOf (span f (suc a) n) (suc k) w) (positionsOf (span f (suc a) n) (suc k) w)) (k + 0)) (sym q)
+      (first k (positionsOf (span f (suc a) n) (suc k) w))
+  placed-span (suc n) a k (suc i) w h e =
+      let z : a + suc i ≡ suc a + i = omega arith in
+      let y : suc k + i ≡ k + suc i = omega arith in
+      subst (AtPlace (pick (eqb (f a .worker) w) (k ∷ positionsOf (span f (suc a) n) (suc k) w) (positionsOf (span f (suc a) n) (suc k) w))) y
+      (later (eqb (f a .worker) w) (positionsOf (span f (suc a) n) (suc k) w) k (suc k + i)
+      (placed-span n (suc a) (suc k) i w (omega arith) (ap (λ (x : ℕ). f x .worker) (sym z) ∙ e)))
+
+  claim-span : (n a i : ℕ) → i < n → claimAsked (span f a n) i ≡ f (a + i) .claim
+  unfolding span claimAsked
+  claim-span zero a i h = absurd (omega arith)
+  claim-span (suc n) a zero h = let z : a ≡ a + 0 = omega arith in ap (λ (x : ℕ). f x .claim) z
+  claim-span (suc n) a (suc i) h =
+      let z : suc a + i ≡ a + suc i = omega arith in
+      claim-span n (suc a) i (omega arith) ∙ ap (λ (x : ℕ). f x .claim) z
+
+named-unopened : (m : ℕ) → m < 256 → nameOf (readingOf m) ≡ unopenedName
+unfolding readingOf pick
+named-unopened m h =
+    by-cases (ℕ-discrete m 0) (λ e. rw (eq-eqb m 0 e))
+    (λ n.
+    let a : m ≡ 256 → ⊥ = λ e. omega arith in
+    let b : m ≡ 257 → ⊥ = λ e. omega arith in
+    let d : m ≡ 258 → ⊥ = λ e. omega arith in
+    rw (ne-eqb m 0 n, ne-eqb m 256 a, ne-eqb m 257 b, ne-eqb m 258 d))
+
+-- the table once all turns are played
+module _ (s : List ℕ) (e : Accepted ≡ checkJob s) (t : List ℕ) (room : Fresh s t) (ws : List ℕ) (low : Low (jobOf s) ws) where
+  abbrev start : List ℕ
+  start = startWords (jobOf s) t
+
+  abbrev all : List ℕ
+  all = played (jobOf s) (startWords (jobOf s) t) ws
+
+  abbrev u : List ℕ
+  u = runTable (jobOf s) (startWords (jobOf s) t) (played (jobOf s) (startWords (jobOf s) t) ws)
+
+  all-low : Low (jobOf s) all
+  unfolding played
+  all-low =
+      low-append (jobOf s) ws (finishTurns (most (jobOf s)) (jobOf s) (runTable (jobOf s) start ws) 0) low
+      (low-finish (jobOf s) (most (jobOf s)) (runTable (jobOf s) start ws) 0 (valid s e .workersLeast))
+
+  made : Made (jobOf s) u
+  made = made-run (jobOf s) (ok s e) all start (made-start (start-started (jobOf s) t room)) all-low
+
+  all-answered : (w : ℕ) → w < jobOf s .workers → answered (jobOf s) u w ≡ length (askedBy (jobOf s) w)
+  unfolding played
+  all-answered w h = omega (arith, all-each (jobOf s) u (finished-in s e t room ws low) w h, made .range .answers w h)
+
+  -- the word of question k
+  pub answer-shown : (k : ℕ) → k < questions s → getD u (answerWord (jobOf s) k) 0 ≡ byteOf (verdict (programOf (jobOf s)) (questionOf s k .claim))
+  unfolding questionClaim askedBy jobOf
+  answer-shown k h =
+      let f : ℕ → Question = questionAt s (rules s) (literals s) in
+      let w : ℕ = f k .worker in
+      let z : 0 + k ≡ k = omega arith in
+      let p = placed-span f (questions s) 0 0 k w h (ap (λ (x : ℕ). f x .worker) z) in
+      let small : w < jobOf s .workers = well-formed s e .asker k h in
+      let here : getD (askedBy (jobOf s) w) (p .at) 0 ≡ k = p .is ∙ z in
+      let said : getD u (answerWord (jobOf s) (getD (askedBy (jobOf s) w) (p .at) 0)) 0 ≡ byteOf (verdict (programOf (jobOf s)) (questionClaim (jobOf s) w (p .at))) =
+      made .verdicts .words w (p .at) small (omega (arith, p .real, all-answered w small)) in
+      let claim : questionClaim (jobOf s) w (p .at) ≡ f k .claim =
+      ap (claimAsked (jobOf s .questions)) here ∙ claim-span f (questions s) 0 k h ∙ ap (λ (x : ℕ). f x .claim) z in
+      ap (λ (x : ℕ). getD u (answerWord (jobOf s) x) 0) (sym here) ∙ said ∙ ap (λ (x : ℕ). byteOf (verdict (programOf (jobOf s)) x)) claim
+
+  pub claim-shown : (c : ℕ) → c < jobOf s .claims → Asked (jobOf s) c → mark u c ≡ markOf (verdict (programOf (jobOf s)) c)
+  claim-shown c h a =
+      made .verdicts .marks c h
+      (all-led (jobOf s) (ok s e) start (start-started (jobOf s) t room) all all-low all-answered c (asked-led (jobOf s) (valid s e) c a) .1)
+
+  pub claim-hidden : (c : ℕ) → c < jobOf s .claims → (Asked (jobOf s) c → ⊥) → mark u c < 256
+  claim-hidden c h n =
+      by-cases (decLe 256 (mark u c))
+      (λ d. absurd (n (led-asked (jobOf s) (valid s e) c (only-led (jobOf s) (ok s e) start (start-started (jobOf s) t room) all all-low c h d))))
+      (λ d. omega arith)
+
+-- the text is never empty
+refusal-some : (n p : ℕ) → 1 ≤ length (refusalLine n p)
+refusal-some n p =
+    omega (
+      arith,
+      length-append refusedWord (decimal n),
+      length-append (refusedWord ++ decimal n) (blank ∷ []),
+      length-append (refusedWord ++ decimal n ++ (blank ∷ [])) (decimal p),
+      length-append (refusedWord ++ decimal n ++ (blank ∷ []) ++ decimal p) (lineEnd ∷ []),
+    )
+
+text-some : (j : Job) (t ns : List ℕ) → 1 ≤ length (textOf j t ns)
+unfolding textOf
+text-some j t ns =
+    let x₁ : List ℕ = heading claimsWord (j .claims) in
+    let x₂ : List ℕ = flatMap (claimLine t) (upto (j .claims)) in
+    let x₃ : List ℕ = heading questionsWord (length (j .questions)) in
+    let x₄ : List ℕ = questionLines j t 0 (j .questions) in
+    omega (
+      arith,
+      length-append claimsWord (decimal (j .claims)),
+      length-append (claimsWord ++ decimal (j .claims)) (lineEnd ∷ []),
+      length-append x₁ x₂,
+      length-append (x₁ ++ x₂) x₃,
+      length-append (x₁ ++ x₂ ++ x₃) x₄,
+      length-append (x₁ ++ x₂ ++ x₃ ++ x₄) (tallyLine ns),
+    )
+
+checked-some : (x : Check) (i : List ℕ) → 1 ≤ length (listingIf x i)
+unfolding listingIf listed
+checked-some Accepted i = text-some _ _ _
+checked-some (Refused n p) i = refusal-some n p
+
+listing-some : (i : List ℕ) → 1 ≤ length (listing i)
+unfolding listing
+listing-some i = checked-some (listingCheck i) i
+
+module _ (i : List ℕ) (e : Accepted ≡ listingCheck i) where
+  abbrev s : List ℕ
+  s = jobPart i
+
+  zeros-enough : Fresh s (replicate (used (jobOf s)) 0)
+  zeros-enough = omega (arith, length-replicate {A = ℕ} (used (jobOf s)) 0)
+
+  names-low : Low (jobOf s) (schedulePart i)
+  unfolding jobOf
+  names-low = low-all (jobOf s) (schedulePart i) (accepted-input i e .low)
+
+  question-told : (k : ℕ) → k < length (jobOf s .questions) → lineOf s (lastTable i) k ≡ answerLine (questionOf s k .worker) (questionOf s k .claim) (readingOf (markOf (verdict (programOf (jobOf s)) (questionOf s k .claim))))
+  unfolding lastTable
+  question-told k h =
+      ap (λ (x : ℕ). answerLine (questionOf s k .worker) (questionOf s k .claim) (readingOf (255 + x)))
+      (answer-shown s (accepted-input i e .job) (replicate (used (jobOf s)) 0) zeros-enough (schedulePart i) names-low k (omega (arith, questions-count s)))
+
+  claim-told : (c : ℕ) → c < jobOf s .claims → Asked (jobOf s) c → mark (lastTable i) c ≡ markOf (verdict (programOf (jobOf s)) c)
+  unfolding lastTable
+  claim-told = claim-shown s (accepted-input i e .job) (replicate (used (jobOf s)) 0) zeros-enough (schedulePart i) names-low
+
+  claim-untold : (c : ℕ) → c < jobOf s .claims → (Asked (jobOf s) c → ⊥) → mark (lastTable i) c < 256
+  unfolding lastTable
+  claim-untold = claim-hidden s (accepted-input i e .job) (replicate (used (jobOf s)) 0) zeros-enough (schedulePart i) names-low
+
+pub told : (i : List ℕ) → Told i
+told i =
+    record {
+      some = listing-some i;
+      questions = question-told i;
+      claims = λ e c h a. ap (λ (m : ℕ). decimal c ++ (blank ∷ []) ++ nameOf (readingOf m) ++ (lineEnd ∷ [])) (claim-told i e c h a);
+      others =
+          λ e c h n. ap (λ (x : List ℕ). decimal c ++ (blank ∷ []) ++ x ++ (lineEnd ∷ [])) (named-unopened (mark (lastTable i) c) (claim-untold i e c h n));
+    }

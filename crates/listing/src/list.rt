@@ -1,0 +1,85 @@
+// The whole listing, into a buffer that the caller lends. The contracts cite specs/Listing.
+ghost use mathlib.Core.Path.{_≡_};
+ghost use Prim.Native.Nat.{ℕ, _<_, _≤_};
+ghost use lib.ListN.{length, getD, replicate};
+ghost use Rattle.job.specs.Accepted.{WellFormed};
+ghost use Rattle.job.specs.Format.{workers as workersOf, jobOf};
+ghost use Rattle.table.specs.Layout.{used};
+ghost use Rattle.listing.specs.Text.{Put};
+ghost use Rattle.listing.specs.Listing.{listed, listingCheck, listingIf, roomLength, roomBytes};
+ghost use Rattle.listing.specs.Told.{Told};
+use crate::Listed;
+use crate::input;
+use crate::lines;
+use crate::play;
+use job::Check;
+use table::words;
+
+// Enough for the text of every input.
+pub const MOST_TEXT: usize = 196608;
+
+// The text of an accepted job, by way of a table of zeros.
+fn list_on(job: &[u8], named: &[u8], table: &mut [u32], out: &mut [u8]) -> usize
+    requires { ⌜ WellFormed (now job) ⌝ }
+    requires { ⌜ ((i : ℕ) → i < length (now named) → getD (now named) i 0 < workersOf (now job)) ⌝ }
+    requires { ⌜ length (now named) ≤ 65536 ⌝ }
+    requires { ⌜ now table ≡ replicate (used (jobOf (now job))) 0 ⌝ }
+    requires { ⌜ 196608 ≤ length (now out) ⌝ }
+    ensures { λ r. ⌜ Put (now (out .entry)) 0 (listed (jobOf (now (job .entry))) (now (named .entry))) (now (out .exit)) r ⌝ }
+{
+    let counts = play::play(job, named, table);
+    lines::put_text(out, job, table, &counts)
+}
+
+// Words for the table of every job: 8 + 3 · 4,096 + 2 · 32 + 1,024.
+fn blank_words() -> [u32; 13384]
+    ensures { λ r. ⌜ r ≡ replicate 13384 0 ⌝ }
+{
+    [0u32; 13384]
+}
+
+// The text of an accepted job and schedule.
+fn list_accepted(job: &[u8], named: &[u8], out: &mut [u8]) -> usize
+    requires { ⌜ WellFormed (now job) ⌝ }
+    requires { ⌜ ((i : ℕ) → i < length (now named) → getD (now named) i 0 < workersOf (now job)) ⌝ }
+    requires { ⌜ length (now named) ≤ 65536 ⌝ }
+    requires { ⌜ 196608 ≤ length (now out) ⌝ }
+    ensures { λ r. ⌜ Put (now (out .entry)) 0 (listed (jobOf (now (job .entry))) (now (named .entry))) (now (out .exit)) r ⌝ }
+{
+    let mut table = blank_words();
+    let used = words::used_words(job);
+    list_on(job, named, &mut table[..used], out)
+}
+
+// The text of an input whose check is made.
+fn list_checked(input: &[u8], check: Check, out: &mut [u8]) -> usize
+    requires { ⌜ check ≡ listingCheck (now input) ⌝ }
+    requires { ⌜ 196608 ≤ length (now out) ⌝ }
+    ensures { λ r. ⌜ Put (now (out .entry)) 0 (listingIf check (now (input .entry))) (now (out .exit)) r ⌝ }
+{
+    match check {
+        Check::Refused { number, place } => lines::put_refusal(out, 0, number, place),
+        Check::Accepted => {
+            let end = input::job_end(input);
+            list_accepted(&input[..end], &input[end..], out)
+        }
+    }
+}
+
+// Lists the input at the start of `out`; where that has under 196,608 bytes, nothing is written, and the length is 0.
+pub fn list(input: &[u8], out: &mut [u8]) -> Listed
+    ensures { λ r. ⌜ r .check ≡ listingCheck (now (input .entry)) ⌝ }
+    ensures { λ r. ⌜ r .length ≡ roomLength (now (input .entry)) (now (out .entry)) ⌝ }
+    ensures { λ r. ⌜ now (out .exit) ≡ roomBytes (now (input .entry)) (now (out .entry)) ⌝ }
+    ensures { λ r. ⌜ r .length ≤ length (now (out .exit)) ⌝ }
+    ensures { λ r. ⌜ Told (now (input .entry)) ⌝ }
+{
+    let check = input::check_input(input);
+    if out.len() < MOST_TEXT {
+        return Listed { check, length: 0 };
+    }
+    Listed {
+        check,
+        length: list_checked(input, check, out),
+    }
+}

@@ -1,0 +1,30 @@
+// The turns of a listing: those that the schedule names, then those that finish. The contract cites `played` of specs/Listing.
+ghost use mathlib.Core.Path.{_≡_};
+ghost use Prim.Native.Nat.{ℕ, _<_, _≤_};
+ghost use lib.ListN.{length, getD};
+ghost use Rattle.job.specs.Accepted.{WellFormed};
+ghost use Rattle.job.specs.Format.{workers as workersOf, jobOf};
+ghost use Rattle.table.specs.Layout.{used};
+ghost use Rattle.table.specs.Start.{startWords};
+ghost use Rattle.turns.specs.Turn.{runTable, runKinds};
+ghost use Rattle.turns.specs.Calls.{tally as tallyOf};
+ghost use Rattle.listing.specs.Listing.{played};
+use crate::finish;
+use job::claims;
+use table::start;
+use turns::schedule;
+
+// Starts the table, takes the turns, and gives their tally.
+pub fn play(job: &[u8], named: &[u8], table: &mut [u32]) -> [u64; 8]
+    requires { ⌜ WellFormed (now job) ⌝ }
+    requires { ⌜ ((i : ℕ) → i < length (now named) → getD (now named) i 0 < workersOf (now job)) ⌝ }
+    requires { ⌜ length (now named) ≤ 65536 ⌝ }
+    requires { ⌜ used (jobOf (now job)) ≤ length (now table) ⌝ }
+    ensures { λ r. ⌜ r ≡ tallyOf (runKinds (jobOf (now (job .entry))) (startWords (jobOf (now (job .entry))) (now (table .entry))) (played (jobOf (now (job .entry))) (startWords (jobOf (now (job .entry))) (now (table .entry))) (now (named .entry)))) ⌝ }
+    ensures { λ r. ⌜ now (table .exit) ≡ runTable (jobOf (now (job .entry))) (startWords (jobOf (now (job .entry))) (now (table .entry))) (played (jobOf (now (job .entry))) (startWords (jobOf (now (job .entry))) (now (table .entry))) (now (named .entry))) ⌝ }
+{
+    let index = claims::index_claims(job);
+    start::write_start(job, table);
+    let counts = schedule::run_turns(job, &index, table, named);
+    finish::finish(job, &index, table, counts)
+}
