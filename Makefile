@@ -1,12 +1,19 @@
-# make run    builds the library, and runs the example in C on it
-# make test   all tests, then the proofs from nothing: what the gate does
-# make bench  plain evaluation and runs beside other evaluators, as ratios
-.PHONY: run test bench library clean
+# make run      builds the listing program, and lists an example field
+# make c        builds the library, and runs the example in C on it
+# make test     all tests, then the proofs from nothing: what the gate does
+# make bench    plain evaluation and runs beside other evaluators, as ratios
+.PHONY: run program c library test bench clean
+
+program:
+	rt check verdicts
+
+run: program
+	target/bin/verdicts < examples/fields/field.field
 
 library:
 	rt staticlib zestchintz
 
-run: library
+c: library
 	mkdir -p target/examples
 	cc -std=c11 -Wall -Wextra -O2 -Iinclude -o target/examples/plain examples/c/plain.c target/staticlib/libzestchintz.a
 	target/examples/plain

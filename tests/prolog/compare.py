@@ -1,6 +1,6 @@
 #!/usr/bin/env -S python3 -B
-"""Compares the library's verdicts with SWI-Prolog's; exit status 1 if they
-differ in a way that docs/PROLOG.md doesn't allow for.
+"""Compares the library's verdicts, and the listing program's, with SWI-Prolog's;
+exit status 1 if they differ in a way that docs/PROLOG.md doesn't allow for.
 
 usage: compare.py [KIND:FROM:COUNT ...]     (made jobs; from the repository's root)
 
@@ -9,12 +9,14 @@ claims undefined that the library decides, the job is given again with the
 claims that it did decide exchanged for facts or nothing, until it agrees or
 says no more.  Where its first answer differs at all, it must break the job's
 own rules (model.py says how), and a third evaluator must agree with the
-library.  Each such job is printed and counted."""
+library.  Each such job is printed and counted.  What was agreed upon is then
+held against the listing of the same job, unless the job is large (listed.py)."""
 import subprocess
 import sys
 import tempfile
 from collections import Counter
 
+import listed
 import model
 
 # Among these are jobs on which SWI-Prolog 9.0.4 shows a fault.
@@ -93,6 +95,18 @@ def compare(folder, job):
     return "left undecided" if last == ours else "contradicts itself"
 
 
+def compare_listed(made, job):
+    """How many claim lines of the listing program have the verdicts; none where
+    the job is large.  Raises Differs."""
+    ours = verdicts_of(output([COMPARE, "verdicts"], job))
+    if len(ours) > listed.MOST_CLAIMS:
+        return 0
+    fault, lines = listed.compare(made, ours)
+    if fault:
+        raise Differs(fault)
+    return lines
+
+
 def main(parts):
     count, bad = Counter(), 0
     with tempfile.TemporaryDirectory() as folder:
@@ -103,17 +117,20 @@ def main(parts):
                 job = made[:int.from_bytes(made[:4], "little")]
                 try:
                     result = compare(folder, job)
+                    lines = 0 if result == "refused" else compare_listed(made, job)
                 except Differs as fault:
                     bad += 1
                     print("differs: %s %d: %s" % (kind, seed, fault), flush=True)
                     continue
                 count[result] += 1
+                count["listed"] += lines > 0
+                count["lines"] += lines
                 if result not in ("equal", "refused"):
                     print("known fault: %s %d: SWI-Prolog %s" % (kind, seed, result), flush=True)
+    kinds = [count[result] for result in ("equal", "left undecided", "contradicts itself", "refused")]
     print("%d jobs: %d equal at once, %d after feeding back what SWI-Prolog left undecided, "
-          "%d where it contradicts itself, %d refused by both, %d differ"
-          % (sum(count.values()) + bad, count["equal"], count["left undecided"], count["contradicts itself"],
-             count["refused"], bad))
+          "%d where it contradicts itself, %d refused by both; %d of them listed, with %d claim lines; %d differ"
+          % (sum(kinds) + bad, *kinds, count["listed"], count["lines"], bad))
     return 1 if bad else 0
 
 

@@ -34,6 +34,16 @@ pub and-rest : (a b : Bool) → (a && b) ≡ false → a ≡ true → b ≡ fals
 and-rest true b e h = e
 and-rest false b e h = absurd (false≢true h)
 
+pub and-no : (a b : Bool) → b ≡ false → (a && b) ≡ false
+and-no true b e = e
+and-no false b e = refl
+
+pub and-off : (a b : Bool) → a ≡ false → false ≡ (a && b)
+and-off a b e = rw e
+
+pub and-on : (a b : Bool) {r : Bool} → a ≡ true → r ≡ b → r ≡ (a && b)
+and-on a b e f = rw e f
+
 pub or-left : (a b : Bool) → T a → T (a || b)
 or-left true b t = tt
 or-left false b t = absurd t

@@ -14,6 +14,7 @@ use lib.ListN.{length, getD, set}
 use Rattle.base.specs.Choose.{pick}
 use Rattle.base.specs.Span.{span}
 use Rattle.base.specs.Lists.{every}
+use Rattle.base.proofs.Bools.{and-on, and-off}
 use Rattle.base.proofs.Span.{span-one, span-none}
 use Rattle.job.specs.Job.{Job}
 use Rattle.job.specs.Format.{claims, literals, workers, questions, jobOf}
@@ -30,7 +31,6 @@ use Rattle.turns.specs.declared.Kind.{Kind}
 use Rattle.turns.proofs.Jobs.{job-ok}
 use Rattle.turns.proofs.Range.{turn-in-range}
 use Rattle.turns.proofs.Lengths.{turn-length}
-use Rattle.turns.proofs.Sweeps.{and-on, and-off}
 use Rattle.turns.proofs.Tallies.{one-more}
 use Rattle.listing.specs.Finish.{answeredAll, nextWorker, finishTurns, most}
 

@@ -271,6 +271,6 @@ counted-length ns (k ∷ ks) =
     counted-length (set ns (kindNumber k) (getD ns (kindNumber k) 0 + 1)) ks
     ∙ length-set ns (kindNumber k) (getD ns (kindNumber k) 0 + 1)
 
-pub tally-length : (ks : List Kind) → length (tally ks) ≡ 8
+pub tally-length : {ns : List ℕ} (ks : List Kind) → ns ≡ tally ks → length ns ≡ 8
 unfolding tally
-tally-length ks = counted-length (replicate 8 0) ks
+tally-length ks e = ap length e ∙ counted-length (replicate 8 0) ks

@@ -1,7 +1,7 @@
 -- What the lines of a listing show: the well-founded model of the whole job. Assumes nothing.
 --   AtPlace, placed-span   question i stands among its worker's questions
---   named-unopened         a mark that is not complete is shown as unopened
---   answer-shown, claim-shown, claim-hidden   the words of questions and claims, once all turns are played
+--   named-unopened         a fresh claim is shown as unopened; not-open   a complete one is not shown as open
+--   answer-shown, claim-shown, claim-fresh, claim-asked   the words of questions and claims, once all turns are played
 --   told                   specs/Told, of every input
 use Prim.Native.Nat.{ℕ, zero, suc, _+_, _≤_, _<_}
 use mathlib.Core.Path.{_≡_, refl, sym, _∙_, ap, subst}
@@ -9,8 +9,8 @@ use mathlib.Core.Bool.{Bool, true, false}
 use mathlib.Core.Logic.{by-cases}
 use mathlib.Core.List.{List, [], _∷_, _++_, flatMap}
 use native.Mathlib.Omega.{arith}
-use native.Mathlib.Decide.{ℕ-discrete, decLe}
-use borrow.Author.Tests.{eq-eqb, ne-eqb}
+use native.Mathlib.Decide.{decLt}
+use borrow.Author.Tests.{eq-eqb}
 use lib.Dec.{eqb}
 use lib.ListN.{length, getD, replicate, length-append, length-replicate}
 use Rattle.base.specs.Choose.{pick}
@@ -24,13 +24,15 @@ use Rattle.job.specs.declared.Check.the-variants.{Accepted, Refused}
 use Rattle.job.specs.declared.Question.{Question}
 use Rattle.job.proofs.Accepted.{well-formed}
 use Rattle.job.proofs.Written.{questions-count}
-use Rattle.model.specs.Model.{programOf, verdict, byteOf}
+use Rattle.model.specs.Model.{Verdict, True, False, Undefined, programOf, verdict, byteOf}
 use Rattle.table.specs.Questions.{positionsOf, askedBy, claimAsked, questionClaim}
 use Rattle.table.specs.Layout.{used, mark, markOf, answered, answerWord}
 use Rattle.table.specs.Start.{startWords}
 use Rattle.table.specs.Reading.{readingOf}
+use Rattle.table.specs.declared.Reading.the-variants.{Fresh, Open}
 use Rattle.turns.specs.Turn.{runTable}
-use Rattle.turns.specs.Promise.{Fresh, Asked}
+use Rattle.turns.specs.Promise as P
+use Rattle.turns.specs.Promise.{Asked}
 use Rattle.turns.proofs.Starting.{start-started}
 use Rattle.turns.proofs.Runs.{Low, Made, made-start, made-run}
 use Rattle.turns.proofs.Promise.{only-led, all-led}
@@ -83,18 +85,24 @@ module _ (f : ℕ → Question) where
       let z : suc a + i ≡ a + suc i = omega arith in
       claim-span n (suc a) i (omega arith) ∙ ap (λ (x : ℕ). f x .claim) z
 
-named-unopened : (m : ℕ) → m < 256 → nameOf (readingOf m) ≡ unopenedName
+named-unopened : (m : ℕ) → m ≡ 0 → nameOf (readingOf m) ≡ unopenedName
 unfolding readingOf pick
-named-unopened m h =
-    by-cases (ℕ-discrete m 0) (λ e. rw (eq-eqb m 0 e))
-    (λ n.
-    let a : m ≡ 256 → ⊥ = λ e. omega arith in
-    let b : m ≡ 257 → ⊥ = λ e. omega arith in
-    let d : m ≡ 258 → ⊥ = λ e. omega arith in
-    rw (ne-eqb m 0 n, ne-eqb m 256 a, ne-eqb m 257 b, ne-eqb m 258 d))
+named-unopened m e = rw (eq-eqb m 0 e)
+
+fresh-not-open : (m : ℕ) → m ≡ 0 → readingOf m ≡ Open → ⊥
+unfolding readingOf pick
+fresh-not-open m e q =
+    let f : Fresh ≡ Open = sym (ap readingOf e) ∙ q in
+    let z : _≡_ {A = ℕ} 0 1 = cc in absurd (omega arith)
+
+not-open : (v : Verdict) → readingOf (markOf v) ≡ Open → ⊥
+unfolding readingOf pick
+not-open True q = let z : _≡_ {A = ℕ} 0 1 = cc in absurd (omega arith)
+not-open False q = let z : _≡_ {A = ℕ} 0 1 = cc in absurd (omega arith)
+not-open Undefined q = let z : _≡_ {A = ℕ} 0 1 = cc in absurd (omega arith)
 
 -- the table once all turns are played
-module _ (s : List ℕ) (e : Accepted ≡ checkJob s) (t : List ℕ) (room : Fresh s t) (ws : List ℕ) (low : Low (jobOf s) ws) where
+module _ (s : List ℕ) (e : Accepted ≡ checkJob s) (t : List ℕ) (room : P.Fresh s t) (ws : List ℕ) (low : Low (jobOf s) ws) where
   abbrev start : List ℕ
   start = startWords (jobOf s) t
 
@@ -138,11 +146,19 @@ module _ (s : List ℕ) (e : Accepted ≡ checkJob s) (t : List ℕ) (room : Fre
       made .verdicts .marks c h
       (all-led (jobOf s) (ok s e) start (start-started (jobOf s) t room) all all-low all-answered c (asked-led (jobOf s) (valid s e) c a) .1)
 
-  pub claim-hidden : (c : ℕ) → c < jobOf s .claims → (Asked (jobOf s) c → ⊥) → mark u c < 256
-  claim-hidden c h n =
-      by-cases (decLe 256 (mark u c))
-      (λ d. absurd (n (led-asked (jobOf s) (valid s e) c (only-led (jobOf s) (ok s e) start (start-started (jobOf s) t room) all all-low c h d))))
-      (λ d. omega arith)
+  -- a claim that isn't fresh is one that a question names or leads to
+  pub claim-asked : (c : ℕ) → c < jobOf s .claims → 0 < mark u c → Asked (jobOf s) c
+  claim-asked c h d =
+      led-asked (jobOf s) (valid s e) c (only-led (jobOf s) (ok s e) start (start-started (jobOf s) t room) all all-low c h d)
+
+  pub claim-fresh : (c : ℕ) → c < jobOf s .claims → (Asked (jobOf s) c → ⊥) → mark u c ≡ 0
+  claim-fresh c h n = by-cases (decLt 0 (mark u c)) (λ d. absurd (n (claim-asked c h d))) (λ d. omega arith)
+
+  pub claim-settled : (c : ℕ) → c < jobOf s .claims → readingOf (mark u c) ≡ Open → ⊥
+  claim-settled c h =
+      by-cases (decLt 0 (mark u c))
+      (λ d q. not-open (verdict (programOf (jobOf s)) c) (ap readingOf (sym (claim-shown c h (claim-asked c h d))) ∙ q))
+      (λ d. fresh-not-open (mark u c) (omega arith))
 
 -- the text is never empty
 refusal-some : (n p : ℕ) → 1 ≤ length (refusalLine n p)
@@ -185,7 +201,7 @@ module _ (i : List ℕ) (e : Accepted ≡ listingCheck i) where
   abbrev s : List ℕ
   s = jobPart i
 
-  zeros-enough : Fresh s (replicate (used (jobOf s)) 0)
+  zeros-enough : P.Fresh s (replicate (used (jobOf s)) 0)
   zeros-enough = omega (arith, length-replicate {A = ℕ} (used (jobOf s)) 0)
 
   names-low : Low (jobOf s) (schedulePart i)
@@ -202,15 +218,20 @@ module _ (i : List ℕ) (e : Accepted ≡ listingCheck i) where
   unfolding lastTable
   claim-told = claim-shown s (accepted-input i e .job) (replicate (used (jobOf s)) 0) zeros-enough (schedulePart i) names-low
 
-  claim-untold : (c : ℕ) → c < jobOf s .claims → (Asked (jobOf s) c → ⊥) → mark (lastTable i) c < 256
+  claim-untold : (c : ℕ) → c < jobOf s .claims → (Asked (jobOf s) c → ⊥) → mark (lastTable i) c ≡ 0
   unfolding lastTable
-  claim-untold = claim-hidden s (accepted-input i e .job) (replicate (used (jobOf s)) 0) zeros-enough (schedulePart i) names-low
+  claim-untold = claim-fresh s (accepted-input i e .job) (replicate (used (jobOf s)) 0) zeros-enough (schedulePart i) names-low
+
+  none-open : (c : ℕ) → c < jobOf s .claims → readingOf (mark (lastTable i) c) ≡ Open → ⊥
+  unfolding lastTable
+  none-open = claim-settled s (accepted-input i e .job) (replicate (used (jobOf s)) 0) zeros-enough (schedulePart i) names-low
 
 pub told : (i : List ℕ) → Told i
 told i =
     record {
       some = listing-some i;
       questions = question-told i;
+      settled = none-open i;
       claims = λ e c h a. ap (λ (m : ℕ). decimal c ++ (blank ∷ []) ++ nameOf (readingOf m) ++ (lineEnd ∷ [])) (claim-told i e c h a);
       others =
           λ e c h n. ap (λ (x : List ℕ). decimal c ++ (blank ∷ []) ++ x ++ (lineEnd ∷ [])) (named-unopened (mark (lastTable i) c) (claim-untold i e c h n));

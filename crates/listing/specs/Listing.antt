@@ -1,5 +1,6 @@
 -- The listing (01, 'The listing program'): from the input bytes to the exact bytes of the text.
 --   jobEnd i, jobPart i, schedulePart i   where the job ends in the input i, and its two parts
+--   mostInput, mostText   the longest input, and room for every text
 --   listingCheck i     the checks of a listing, in the table's order
 --   refusalLine        `refused`, number, place
 --   claimLine, questionLine, tallyLine   the lines of the text
@@ -46,8 +47,11 @@ abbrev pub schedulePart : List ℕ → List ℕ
 schedulePart i = drop (jobEnd i) i
 
 -- "Over 65,536 bytes prints `refused 1 65537`."
+abbrev pub mostInput : ℕ
+mostInput = 65536
+
 unfoldable pub listingCheck : List ℕ → Check
-listingCheck i = row (over (length i) 65536) 1 65537 ⨾ checkJob (jobPart i) ⨾ checkSchedule (jobPart i) (schedulePart i)
+listingCheck i = row (over (length i) mostInput) 1 65537 ⨾ checkJob (jobPart i) ⨾ checkSchedule (jobPart i) (schedulePart i)
 
 -- "A refusal prints `refused`, number, place."
 abbrev pub refusalLine : ℕ → ℕ → List ℕ
@@ -107,9 +111,13 @@ listingIf (Refused number place) i = refusalLine number place
 unfoldable pub listing : List ℕ → List ℕ
 listing i = listingIf (listingCheck i) i
 
+-- room for the text of every input
+abbrev pub mostText : ℕ
+mostText = 196608
+
 -- What a listing leaves where it is lent `out`: the text at its start; where `out` may be too short for some text, as it was.
 unfoldable pub roomLength : List ℕ → List ℕ → ℕ
-roomLength i out = pick (under (length out) 196608) 0 (length (listing i))
+roomLength i out = pick (under (length out) mostText) 0 (length (listing i))
 
 unfoldable pub roomBytes : List ℕ → List ℕ → List ℕ
-roomBytes i out = pick (under (length out) 196608) out (wrote out 0 (listing i))
+roomBytes i out = pick (under (length out) mostText) out (wrote out 0 (listing i))

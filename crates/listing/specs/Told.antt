@@ -11,9 +11,10 @@ use Rattle.job.specs.Format.{rules, literals, questionAt, jobOf}
 use Rattle.job.specs.declared.Check.the-variants.{Accepted}
 use Rattle.job.specs.declared.Question.{Question}
 use Rattle.model.specs.Model.{programOf, verdict}
-use Rattle.table.specs.Layout.{used, markOf}
+use Rattle.table.specs.Layout.{used, mark, markOf}
 use Rattle.table.specs.Start.{startWords}
 use Rattle.table.specs.Reading.{readingOf}
+use Rattle.table.specs.declared.Reading.the-variants.{Open}
 use Rattle.turns.specs.Turn.{runTable}
 use Rattle.turns.specs.Promise.{Asked}
 use Rattle.listing.specs.Text.{decimal, blank, lineEnd, nameOf, unopenedName}
@@ -52,3 +53,5 @@ pub record Told (i : List ℕ) : Type 0 where
   pub others :
       Accepted ≡ listingCheck i → (c : ℕ) → c < jobOf (jobPart i) .claims → (Asked (jobOf (jobPart i)) c → ⊥)
       → claimLine (lastTable i) c ≡ decimal c ++ (blank ∷ []) ++ unopenedName ++ (lineEnd ∷ [])
+  -- no claim is open at the end: each is complete or fresh
+  pub settled : Accepted ≡ listingCheck i → (c : ℕ) → c < jobOf (jobPart i) .claims → readingOf (mark (lastTable i) c) ≡ Open → ⊥

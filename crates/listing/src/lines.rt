@@ -7,9 +7,10 @@ ghost use lib.ListN.{length};
 ghost use Rattle.base.specs.Lists.{upto};
 ghost use Rattle.job.specs.Accepted.{WellFormed};
 ghost use Rattle.job.specs.Format.{jobOf, questions};
+ghost use Rattle.job.specs.Job.{mostClaims};
 ghost use Rattle.table.specs.Layout.{used};
 ghost use Rattle.listing.specs.Text.{Put, claimsWord, questionsWord};
-ghost use Rattle.listing.specs.Listing.{refusalLine, claimLine, countText, tallyLine, answerLine, lineOf, questionLines, heading, textOf};
+ghost use Rattle.listing.specs.Listing.{refusalLine, claimLine, countText, tallyLine, answerLine, lineOf, questionLines, heading, mostText, textOf};
 use crate::text;
 use job::format;
 use table::words;
@@ -39,7 +40,7 @@ pub fn put_claim(buf: &mut [u8], at: usize, table: &[u32], c: usize) -> usize
 
 pub fn put_claim_lines(buf: &mut [u8], at: usize, table: &[u32], claims: usize) -> usize
     requires { ⌜ 8 + 3 * claims ≤ length (now table) ⌝ }
-    requires { ⌜ claims ≤ 4096 ⌝ }
+    requires { ⌜ claims ≤ mostClaims ⌝ }
     requires { ⌜ at + 31 * claims ≤ length (now buf) ⌝ }
     ensures { λ r. ⌜ Put (now (buf .entry)) at (flatMap (claimLine (now (table .entry))) (upto claims)) (now (buf .exit)) r × (r ≤ at + 31 * claims) ⌝ }
 {
@@ -152,7 +153,7 @@ pub fn put_text(buf: &mut [u8], job: &[u8], table: &[u32], counts: &[u64; 8]) ->
     requires { ⌜ WellFormed (now job) ⌝ }
     requires { ⌜ used (jobOf (now job)) ≤ length (now table) ⌝ }
     requires { ⌜ length (now counts) ≡ 8 ⌝ }
-    requires { ⌜ 196608 ≤ length (now buf) ⌝ }
+    requires { ⌜ mostText ≤ length (now buf) ⌝ }
     ensures { λ r. ⌜ Put (now (buf .entry)) 0 (textOf (jobOf (now (job .entry))) (now (table .entry)) (now (counts .entry))) (now (buf .exit)) r ⌝ }
 {
     let claims = format::claim_count(job);

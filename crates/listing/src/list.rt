@@ -6,7 +6,7 @@ ghost use Rattle.job.specs.Accepted.{WellFormed};
 ghost use Rattle.job.specs.Format.{workers as workersOf, jobOf};
 ghost use Rattle.table.specs.Layout.{used};
 ghost use Rattle.listing.specs.Text.{Put};
-ghost use Rattle.listing.specs.Listing.{listed, listingCheck, listingIf, roomLength, roomBytes};
+ghost use Rattle.listing.specs.Listing.{mostInput, mostText, listed, listingCheck, listingIf, roomLength, roomBytes};
 ghost use Rattle.listing.specs.Told.{Told};
 use crate::Listed;
 use crate::input;
@@ -22,9 +22,9 @@ pub const MOST_TEXT: usize = 196608;
 fn list_on(job: &[u8], named: &[u8], table: &mut [u32], out: &mut [u8]) -> usize
     requires { ⌜ WellFormed (now job) ⌝ }
     requires { ⌜ ((i : ℕ) → i < length (now named) → getD (now named) i 0 < workersOf (now job)) ⌝ }
-    requires { ⌜ length (now named) ≤ 65536 ⌝ }
+    requires { ⌜ length (now named) ≤ mostInput ⌝ }
     requires { ⌜ now table ≡ replicate (used (jobOf (now job))) 0 ⌝ }
-    requires { ⌜ 196608 ≤ length (now out) ⌝ }
+    requires { ⌜ mostText ≤ length (now out) ⌝ }
     ensures { λ r. ⌜ Put (now (out .entry)) 0 (listed (jobOf (now (job .entry))) (now (named .entry))) (now (out .exit)) r ⌝ }
 {
     let counts = play::play(job, named, table);
@@ -42,8 +42,8 @@ fn blank_words() -> [u32; 13384]
 fn list_accepted(job: &[u8], named: &[u8], out: &mut [u8]) -> usize
     requires { ⌜ WellFormed (now job) ⌝ }
     requires { ⌜ ((i : ℕ) → i < length (now named) → getD (now named) i 0 < workersOf (now job)) ⌝ }
-    requires { ⌜ length (now named) ≤ 65536 ⌝ }
-    requires { ⌜ 196608 ≤ length (now out) ⌝ }
+    requires { ⌜ length (now named) ≤ mostInput ⌝ }
+    requires { ⌜ mostText ≤ length (now out) ⌝ }
     ensures { λ r. ⌜ Put (now (out .entry)) 0 (listed (jobOf (now (job .entry))) (now (named .entry))) (now (out .exit)) r ⌝ }
 {
     let mut table = blank_words();
@@ -54,7 +54,7 @@ fn list_accepted(job: &[u8], named: &[u8], out: &mut [u8]) -> usize
 // The text of an input whose check is made.
 fn list_checked(input: &[u8], check: Check, out: &mut [u8]) -> usize
     requires { ⌜ check ≡ listingCheck (now input) ⌝ }
-    requires { ⌜ 196608 ≤ length (now out) ⌝ }
+    requires { ⌜ mostText ≤ length (now out) ⌝ }
     ensures { λ r. ⌜ Put (now (out .entry)) 0 (listingIf check (now (input .entry))) (now (out .exit)) r ⌝ }
 {
     match check {

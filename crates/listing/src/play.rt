@@ -8,7 +8,7 @@ ghost use Rattle.table.specs.Layout.{used};
 ghost use Rattle.table.specs.Start.{startWords};
 ghost use Rattle.turns.specs.Turn.{runTable, runKinds};
 ghost use Rattle.turns.specs.Calls.{tally as tallyOf};
-ghost use Rattle.listing.specs.Listing.{played};
+ghost use Rattle.listing.specs.Listing.{mostInput, played};
 use crate::finish;
 use job::claims;
 use table::start;
@@ -18,7 +18,7 @@ use turns::schedule;
 pub fn play(job: &[u8], named: &[u8], table: &mut [u32]) -> [u64; 8]
     requires { ⌜ WellFormed (now job) ⌝ }
     requires { ⌜ ((i : ℕ) → i < length (now named) → getD (now named) i 0 < workersOf (now job)) ⌝ }
-    requires { ⌜ length (now named) ≤ 65536 ⌝ }
+    requires { ⌜ length (now named) ≤ mostInput ⌝ }
     requires { ⌜ used (jobOf (now job)) ≤ length (now table) ⌝ }
     ensures { λ r. ⌜ r ≡ tallyOf (runKinds (jobOf (now (job .entry))) (startWords (jobOf (now (job .entry))) (now (table .entry))) (played (jobOf (now (job .entry))) (startWords (jobOf (now (job .entry))) (now (table .entry))) (now (named .entry)))) ⌝ }
     ensures { λ r. ⌜ now (table .exit) ≡ runTable (jobOf (now (job .entry))) (startWords (jobOf (now (job .entry))) (now (table .entry))) (played (jobOf (now (job .entry))) (startWords (jobOf (now (job .entry))) (now (table .entry))) (now (named .entry))) ⌝ }

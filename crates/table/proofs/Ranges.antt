@@ -11,7 +11,7 @@ use lib.Dec.{eqb}
 use lib.ListN.{length}
 use Rattle.base.specs.Choose.{pick}
 use Rattle.base.specs.Compare.{under, over, differs}
-use Rattle.base.proofs.Bools.{neither, or-no, and-rest}
+use Rattle.base.proofs.Bools.{neither, or-no, and-rest, and-no}
 use Rattle.base.proofs.Choose.{pick-true, pick-false}
 use Rattle.base.proofs.Compare.{under-no, under-le, over-yes, over-no, over-le, differs-no, differs-eq}
 use Rattle.job.specs.Job.{Job, literalsOf}
@@ -35,11 +35,7 @@ mark-in m w e =
 in-mark : (m w : ℕ) → (m ≤ w) ⊎ ((256 ≤ m) × (m ≤ 258)) → (over m w && (under m 256 || over m 258)) ≡ false
 in-mark m w s =
     ⊎-elim (λ h. rw (over-no m w h))
-    (λ h. and-none (over m w) _ (or-no (under m 256) (over m 258) (under-no _ _ (h .0)) (over-no _ _ (h .1)))) s
-  where
-    and-none : (a b : Bool) → b ≡ false → (a && b) ≡ false
-    and-none true b e = e
-    and-none false b e = refl
+    (λ h. and-no (over m w) _ (or-no (under m 256) (over m 258) (under-no _ _ (h .0)) (over-no _ _ (h .1)))) s
 
 -- a word x that is at most l, and 0 where the mark m is
 module _ (m x l : ℕ) where

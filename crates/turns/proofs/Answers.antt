@@ -13,6 +13,7 @@ use native.Mathlib.Decide.{ℕ-discrete}
 use borrow.Author.Tests.{eq-eqb, ne-eqb}
 use lib.Dec.{eqb}
 use Rattle.base.specs.Choose.{pick}
+use Rattle.base.proofs.Bools.{and-no}
 use Rattle.base.proofs.Choose.{pick-true, pick-false}
 use Rattle.job.specs.Job.{Job}
 use Rattle.model.specs.Model.{byteOf}
@@ -71,10 +72,6 @@ data Effect (j : Job) (t : List ℕ) (e : Event) (w : ℕ) : Type 0 where
 
 abbrev event : Job → List ℕ → ℕ → Event
 event j t u = record { worker = u; kind = turn j t u .kind; table = turn j t u .table }
-
-and-no : (a b : Bool) → b ≡ false → (a && b) ≡ false
-and-no true b e = e
-and-no false b e = refl
 
 module _ (j : Job) (J : JobOk j) where
   effect : (t : List ℕ) → Made j t → (u : ℕ) → u < j .workers → (w : ℕ) → w < j .workers → Effect j t (event j t u) w

@@ -32,7 +32,8 @@ use Rattle.turns.specs.Turn.{Turned, lits, spread, spreads, reached, new
 use Rattle.turns.specs.Ready.{Ready, Made, members, passedIn}
 use Rattle.turns.specs.declared.Kind.{Kind}
 use Rattle.turns.specs.declared.Kind.the-variants.{Idle, Completed}
-use Rattle.turns.proofs.Cursors.{size-is, as-made}
+use Rattle.turns.proofs.Making.{made-as, made-from}
+use Rattle.turns.proofs.Cursors.{size-is}
 use Rattle.turns.proofs.Jobs.{lits-length}
 
 -- what is reached stands in rising order
@@ -160,7 +161,7 @@ module _ (s index t : List ℕ) (r : Ready s index t) (w n : ℕ) (l : n < claim
 
   module _ {z : Bool} (q : z ≡ done) where
     pub work-completed : z ≡ true → {u : List ℕ} → u ≡ markAll (completedMark j t) (members seen) t → Made (workTurn j t w n) Completed u
-    work-completed e h = as-made (parts ∙ pick-true _ _ _ (sym q ∙ e)) h
+    work-completed e h = made-from h (made-as _ _ (parts ∙ pick-true _ _ _ (sym q ∙ e)))
 
     module _ (no : z ≡ false) {k : ℕ} (x : k ≡ newest t toPass) where
       later : workTurn j t w n ≡ pick (eqb k 0) (record { kind = Idle; table = t }) (passTurn j t w (k - 1))
@@ -168,7 +169,7 @@ module _ (s index t : List ℕ) (r : Ready s index t) (w n : ℕ) (l : n < claim
           parts ∙ (pick-false _ _ _ (sym q ∙ no) ∙ ap (λ (m : ℕ). pick (eqb m 0) (record { kind = Idle; table = t }) (passTurn j t w (m - 1))) (sym x))
 
       pub work-idle : k ≡ 0 → Made (workTurn j t w n) Idle t
-      work-idle e = as-made (later ∙ pick-true _ _ _ (eq-eqb k 0 e)) refl
+      work-idle e = made-as _ _ (later ∙ pick-true _ _ _ (eq-eqb k 0 e))
 
       pub work-passes : (k ≡ 0 → ⊥) → {y : Kind} {u : List ℕ} → Made (passTurn j t w (k - 1)) y u → Made (workTurn j t w n) y u
       work-passes h {y} {u} m = subst⁻¹ (λ (v : Turned). Made v y u) (later ∙ pick-false _ _ _ (ne-eqb k 0 h)) m

@@ -5,7 +5,6 @@
 --   opened-few        where a claim is fresh, not all are opened
 --   Passing           what was read of claim c and its next literal's claim b, and the table u with c's cursor moved on
 --   moved-..          that table is in range, and what the rest of the turn needs of it
---   as-made           a turn made, from what its definition equals
 --   pass-..           the turn, by the mark of b
 use Prim.Native.Nat.{ℕ, zero, suc, _+_, _*_, _-_, _≤_, _<_}
 use mathlib.Core.Path.{_≡_, refl, sym, _∙_, ap, ap₂, subst, subst⁻¹}
@@ -39,6 +38,7 @@ use Rattle.turns.specs.Turn.{Turned, lits, reached, openClaim, markAll, 
 use Rattle.turns.specs.Ready.{Ready, Made, sizeIn}
 use Rattle.turns.specs.declared.Kind.{Kind}
 use Rattle.turns.specs.declared.Kind.the-variants.{Opened, Waits, Took, Passed}
+use Rattle.turns.proofs.Making.{made-as, made-from}
 use Rattle.turns.proofs.Following.{room, open-owner}
 use Rattle.turns.proofs.Jobs.{lits-length}
 use Rattle.turns.proofs.Gathering.{lits-span}
@@ -187,9 +187,6 @@ byParts j w b m u e taken =
 abbrev taken : Job → List ℕ → List ℕ → ℕ → List ℕ
 taken j t u c = keep (λ d. not (fresh t d)) (reached j u c)
 
-pub as-made : {r : Turned} {k : Kind} {x : List ℕ} → r ≡ record { kind = k; table = x } → {y : List ℕ} → y ≡ x → Made r k y
-as-made e h = record { kindIs = sym (ap (λ (z : Turned). z .kind) e); tableIs = h ∙ sym (ap (λ (z : Turned). z .table) e) }
-
 module _ {s t : List ℕ} {w c p b m : ℕ} {u : List ℕ} (g : Passing s t w c p b m u) where
   abbrev j : Job
   j = jobOf s
@@ -205,15 +202,15 @@ module _ {s t : List ℕ} {w c p b m : ℕ} {u : List ℕ} (g : Passing s t w c 
       (keep-same (λ d. not (fresh t d)) (λ d. not (fresh u d)) (reached j u c) (λ d i. sym (fresh-same j t u (marks g) (awaits g) d))))
 
   pub pass-complete : 256 ≤ m → Made (passTurn j t w c) Passed u
-  pass-complete h = as-made (parts ∙ pick-true _ _ _ (le-leb 256 m h)) refl
+  pass-complete h = made-as _ _ (parts ∙ pick-true _ _ _ (le-leb 256 m h))
 
   module _ (l : m < 256) where
     pub pass-own : m ≡ w + 1 → Made (passTurn j t w c) Passed u
-    pass-own e = as-made (parts ∙ (pick-false _ _ _ (lt-leb 256 m l) ∙ pick-true _ _ _ (eq-eqb m (w + 1) e))) refl
+    pass-own e = made-as _ _ (parts ∙ (pick-false _ _ _ (lt-leb 256 m l) ∙ pick-true _ _ _ (eq-eqb m (w + 1) e)))
 
     module _ (n : m ≡ w + 1 → ⊥) where
       pub pass-fresh : m ≡ 0 → {y : List ℕ} → y ≡ openClaim u w b → Made (passTurn j t w c) Opened y
-      pass-fresh e q = as-made (parts ∙ (pick-false _ _ _ (lt-leb 256 m l) ∙ (pick-false _ _ _ (ne-eqb m (w + 1) n) ∙ pick-true _ _ _ (eq-eqb m 0 e)))) q
+      pass-fresh e q = made-from q (made-as _ _ (parts ∙ (pick-false _ _ _ (lt-leb 256 m l) ∙ (pick-false _ _ _ (ne-eqb m (w + 1) n) ∙ pick-true _ _ _ (eq-eqb m 0 e)))))
 
       module _ (o : m ≡ 0 → ⊥) {z : Bool} (q : z ≡ meets (workers s) j u w (m - 1)) where
         to-other : passTurn j t w c ≡ pick z (record { kind = Took; table = markAll (λ d. w + 1) (taken j u u c) u }) (record { kind = Waits; table = set u (awaitedWord j w) (b + 1) })
@@ -223,8 +220,8 @@ module _ {s t : List ℕ} {w c p b m : ℕ} {u : List ℕ} (g : Passing s t w c 
             (ap (λ (k : ℕ). meets k j u w (m - 1)) (sizes s .workers-are) ∙ sym q))))
 
         pub pass-took : z ≡ true → {y : List ℕ} → y ≡ markAll (λ d. w + 1) (taken j u u c) u → Made (passTurn j t w c) Took y
-        pass-took e h = as-made (to-other ∙ pick-true _ _ _ e) h
+        pass-took e h = made-from h (made-as _ _ (to-other ∙ pick-true _ _ _ e))
 
         pub pass-waits : z ≡ false → {k : ℕ} → k ≡ claims s → {y : List ℕ} → y ≡ set u (8 + 3 * k + 2 * w) (b + 1) → Made (passTurn j t w c) Waits y
         pass-waits e {k} a h =
-            as-made (to-other ∙ pick-false _ _ _ e) (h ∙ ap (λ (x : ℕ). set u (8 + 3 * x + 2 * w) (b + 1)) (a ∙ sym (sizes s .claims-are)))
+            made-from (h ∙ ap (λ (x : ℕ). set u (8 + 3 * x + 2 * w) (b + 1)) (a ∙ sym (sizes s .claims-are))) (made-as _ _ (to-other ∙ pick-false _ _ _ e))

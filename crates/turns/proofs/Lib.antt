@@ -12,6 +12,7 @@ pub mod Gathering
 pub mod Tests
 pub mod Places
 pub mod Jobs
+pub mod Making
 pub mod View
 pub mod Edges
 pub mod NewestOf

@@ -2,7 +2,7 @@
 --   LitAt j x y         y is the claim of a literal of a rule of x;    led-job j   the job by its literals and questions
 --   rounds              after as many rounds as the bound says, all is answered
 --   answered-idle, idle-answered   all is answered exactly when no worker's turn changes anything
---   only-led, all-led   a complete claim is one that a question names or leads to; when all is answered, these are complete
+--   only-led, all-led   a claim that isn't fresh is one that a question names or leads to; when all is answered, these are complete
 use mathlib.Core.Path.{_≡_, refl, sym, _∙_, ap, subst}
 use mathlib.Core.Logic.{by-cases}
 use mathlib.Core.List.{List, [], _∷_, List·Memᴰ·head, List·Memᴰ·tail}
@@ -19,12 +19,12 @@ use Rattle.waiting.specs.Runs.{bound, Rounds}
 use Rattle.waiting.specs.Led as L
 use Rattle.waiting.proofs.Rounds.{rounds-answer, step-ready}
 use Rattle.waiting.proofs.Progress.{progress, rest}
-use Rattle.waiting.proofs.Led.{known-keeps, known-start, complete-led, led-complete}
+use Rattle.waiting.proofs.Led.{known-keeps, known-start, led-complete}
 use Rattle.turns.specs.Turn.{lits, turn, runTable}
 use Rattle.turns.specs.declared.Kind.the-variants.{Idle}
 use Rattle.turns.proofs.Jobs.{JobOk}
 use Rattle.turns.proofs.View.{low-in, low-pos, nextAt, nextAt-in, nextAt-out, askAt, askAt-in, askAt-out, view}
-use Rattle.turns.proofs.Outcomes.{Outcome, idle, acts, done-of, of-done}
+use Rattle.turns.proofs.Outcomes.{Outcome, idle, acts, of-done}
 use Rattle.turns.proofs.Starting.{Started, started-view, started-answered}
 use Rattle.turns.proofs.Runs.{sizes, Made, made-start, finite, asks-left, ranged, outcome, made-turn, Low, made-run, run-of}
 
@@ -132,8 +132,8 @@ module _ (j : Job) (J : JobOk j) where
     known : L.Known (led-job j) (view j u)
     known = known-run ws t (made-start s) l (known-start (started-view s) (started-answered s))
 
-    pub only-led : (c : ℕ) → c < j .claims → 256 ≤ W.mark u c → L.Led (led-job j) c
-    only-led c h d = complete-led (M .inv) (shows u) known (done-of j u h d)
+    pub only-led : (c : ℕ) → c < j .claims → 0 < W.mark u c → L.Led (led-job j) c
+    only-led c h d = known .named (omega (arith, low-in (W.mark u c) h))
 
     pub all-led : ((w : ℕ) → w < j .workers → W.answered j u w ≡ length (askedBy j w)) → (c : ℕ) → L.Led (led-job j) c → (c < j .claims) × (256 ≤ W.mark u c)
     all-led z c p = of-done j u (led-complete (M .inv) (shows u) known (λ w h. over-ask j u w h (omega (arith, z w h))) p)

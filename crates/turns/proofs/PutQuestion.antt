@@ -23,6 +23,7 @@ use Rattle.job.proofs.Parts.{Asked}
 use Rattle.table.specs.Questions.{askedBy, claimAsked, questionClaim}
 use Rattle.table.specs.Layout.{opened, mark, fresh, complete, answered, awaitedWord, answeredWord, answerWord, valueOf}
 use Rattle.table.specs.Ranges.{InRange, marked}
+use Rattle.turns.proofs.Making.{made-as}
 use Rattle.turns.proofs.Cursors.{opened-few}
 use Rattle.turns.specs.Turn.{Turned, openClaim, askTurn}
 use Rattle.turns.specs.Ready.{Made, nextQuestion}
@@ -30,13 +31,6 @@ use Rattle.turns.specs.declared.Kind.{Kind}
 use Rattle.turns.specs.declared.Kind.the-variants.{Idle, Opened, Waits, Answered}
 use Rattle.turns.specs.declared.Next.{Next}
 use Rattle.turns.specs.declared.Next.the-variants.{At, Nothing}
-
-pub made-as : {x : Turned} (kind : Kind) (t : List ℕ) → x ≡ record { kind = kind; table = t } → Made x kind t
-made-as kind t e = record { kindIs = sym (ap (λ (r : Turned). r .kind) e); tableIs = sym (ap (λ (r : Turned). r .table) e) }
-
--- the table at exit by an equation
-pub made-from : {r : Turned} {kind : Kind} {t u : List ℕ} → u ≡ t → Made r kind t → Made r kind u
-made-from e m = record { kindIs = m .kindIs; tableIs = e ∙ m .tableIs }
 
 -- what a next question says of the worker's questions
 next-in : (j : Job) (w n k : ℕ) → At k ≡ nextQuestion j w n → (n < length (askedBy j w)) × (getD (askedBy j w) n 0 ≡ k)

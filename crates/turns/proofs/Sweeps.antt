@@ -10,6 +10,7 @@ use Rattle.job.specs.declared.Cursor.{Cursor}
 use Rattle.base.specs.Choose.{pick}
 use Rattle.base.specs.Span.{span}
 use Rattle.base.specs.Lists.{upto, keep, every}
+use Rattle.base.proofs.Bools.{and-on, and-off}
 use Rattle.base.proofs.Lists.{keep-keep}
 use Rattle.base.proofs.Span.{span-one, span-none}
 use Rattle.model.specs.Passes.{setOf}
@@ -143,12 +144,6 @@ pub passed-is : (index t : List ℕ) (c : ℕ) {x y : ℕ} → x ≡ cursor t c 
 passed-is index t c {x} {y} e f = ap₂ eqb e f
 
 -- tests that the code makes one after the other
-pub and-off : (a b : Bool) → a ≡ false → false ≡ (a && b)
-and-off a b e = rw e
-
-pub and-on : (a b : Bool) {r : Bool} → a ≡ true → r ≡ b → r ≡ (a && b)
-and-on a b e f = rw e f
-
 -- a claim's owner, by the mark that was read
 pub owned-yes : (t : List ℕ) (w c : ℕ) {m : ℕ} → m ≡ mark t c → m ≡ w + 1 → owned t w c ≡ true
 owned-yes t w c e h = eq-eqb _ _ (sym e ∙ h)

@@ -16,7 +16,7 @@ use Rattle.turns.specs.Turn.{Turned, newest, askTurn, workTurn, turn}
 use Rattle.turns.specs.Ready.{Made}
 use Rattle.turns.specs.declared.Kind.{Kind}
 use Rattle.turns.specs.declared.Kind.the-variants.{Idle, Woke}
-use Rattle.turns.proofs.PutQuestion.{made-as}
+use Rattle.turns.proofs.Making.{made-as}
 
 same-made : {x y : Turned} {kind : Kind} {t : List ℕ} → x ≡ y → Made y kind t → Made x kind t
 same-made {x} {y} e m = record { kindIs = m .kindIs ∙ sym (ap (λ (r : Turned). r .kind) e); tableIs = m .tableIs ∙ sym (ap (λ (r : Turned). r .table) e) }

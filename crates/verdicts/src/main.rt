@@ -5,57 +5,49 @@ use libc::STDERR_FILENO;
 use libc::STDIN_FILENO;
 use libc::STDOUT_FILENO;
 
-// What check `number` found wrong (docs/SPECIFICATION.md, "Checks by place"), up to the place.
-fn say_fault(number: u32) {
-    match number {
-        1 => io::write_all(
-            STDERR_FILENO,
-            b"the job has under 36 or over 61,476 bytes; its length is ",
-        ),
-        2 => io::write_all(
-            STDERR_FILENO,
-            b"the first word is not the length of the job: byte ",
-        ),
-        3 => io::write_all(
-            STDERR_FILENO,
-            b"a count of the header is over its limit, or there are no workers: byte ",
-        ),
-        4 => io::write_all(
-            STDERR_FILENO,
-            b"an offset or the total of the header is not the fixed sum: byte ",
-        ),
-        5 => io::write_all(
-            STDERR_FILENO,
-            b"the head of a rule is no claim of the job, or below the head before it: byte ",
-        ),
-        6 => io::write_all(
-            STDERR_FILENO,
-            b"the lengths of the bodies pass the literals, or end short of them: byte ",
-        ),
-        7 => io::write_all(STDERR_FILENO, b"a literal names no claim of the job: byte "),
-        8 => io::write_all(
-            STDERR_FILENO,
-            b"a question names no worker or no claim of the job: byte ",
-        ),
-        _ => io::write_all(
-            STDERR_FILENO,
-            b"the schedule names no worker of the job: schedule byte ",
-        ),
+fn say(words: &[u8]) {
+    io::write_all(STDERR_FILENO, words);
+}
+
+// What is wrong with the length.
+fn say_length(length: usize) {
+    if 65536 < length {
+        say(b"the input has over 65,536 bytes; bytes read: ");
+        return;
     }
-    ;
+    say(b"the job has under 36 or over 61,476 bytes; its length: ");
+}
+
+// What check `number` found wrong (docs/SPECIFICATION.md, 'Checks by place'), up to the place.
+fn say_fault(number: u32, place: usize) {
+    match number {
+        1 => say_length(place),
+        2 => say(b"the first word is not the length of the job, which was cut or padded; byte "),
+        3 => say(b"a count of the header is over its limit, or there are no workers; byte "),
+        4 => say(b"an offset of the header, or its total, is not the sum of the counts; byte "),
+        5 => say(
+            b"the head of a rule is no claim of the job, or is below the head before it; byte ",
+        ),
+        6 => say(
+            b"the bodies of the rules have more literals than the header says, or fewer; byte ",
+        ),
+        7 => say(b"a literal names no claim of the job; byte "),
+        8 => say(b"a question names no worker or no claim of the job; byte "),
+        _ => say(b"the schedule names no worker of the job; its byte "),
+    }
 }
 
 // One line on standard error.
 fn say_refusal(number: u32, place: usize) {
-    io::write_all(STDERR_FILENO, b"verdicts: refused by check ");
+    say(b"verdicts: refused by check ");
     io::print_decimal(STDERR_FILENO, number as u64);
-    io::write_all(STDERR_FILENO, b", ");
-    say_fault(number);
+    say(b": ");
+    say_fault(number, place);
     io::print_decimal(STDERR_FILENO, place as u64);
-    io::write_all(STDERR_FILENO, b"\n");
+    say(b"\n");
 }
 
-// One byte more than an input may have, so that a longer one shows.
+// The input may have 65,536 bytes; one more is read, so that a longer one shows.
 fn main() {
     let mut input = [0u8; 65537];
     let mut text = [0u8; 196608];

@@ -75,9 +75,6 @@ module _ {j : Job} {s : State} {T : ℕ} (I : Inv s T) (H : Shows j s) (K : Know
   done-all : {x y : ℕ} → Reach (j .Lit) x y → Done s x → Done s y
   done-all p d = stays (Done s) (λ x y l e. I .closed (H .all (I .full e) l) e) p d
 
-  pub complete-led : {c : ℕ} → Done s c → Led j c
-  complete-led d = K .named (omega arith)
-
   pub led-complete : ((w : ℕ) → w < j .workers → s .asks w ≡ 0) → {c : ℕ} → Led j c → Done s c
   led-complete z (led {w = w} {i = i} l m p) =
       done-all p (K .met (omega (arith, H .over l (z w l))))

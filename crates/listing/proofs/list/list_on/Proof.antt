@@ -22,7 +22,7 @@ put-text-requires c κs =
     let a = c .before .before .before .before .before .before .before .before .before .before .before in
     let p = a .pre in
     let z : length (a .args .table .now) ≡ used (jobOf (a .args .job .now)) = ap length (p .1 .1 .1 .0) ∙ length-replicate _ 0 in
-    (p .0, (omega (arith, z), (ap length (c .before .before .before .before .before .play .ensures .0) ∙ tally-length _, p .1 .1 .1 .1)))
+    (p .0, (omega (arith, z), (tally-length _ (c .before .before .before .before .before .play .ensures .0), p .1 .1 .1 .1)))
 
 same-length : tie.Need-same-length
 same-length c = search needs

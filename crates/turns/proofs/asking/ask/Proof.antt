@@ -11,7 +11,8 @@ use Rattle.job.proofs.Parts.{Asked, asked-at}
 use Rattle.table.specs.Questions.{askedBy}
 use Rattle.table.specs.Layout.{mark}
 use Rattle.table.proofs.Asked.{asked-most}
-use Rattle.turns.proofs.PutQuestion.{made-from, claim-low, fresh-left, puts-answered, puts-opened, puts-waits}
+use Rattle.turns.proofs.Making.{made-from}
+use Rattle.turns.proofs.PutQuestion.{claim-low, fresh-left, puts-answered, puts-opened, puts-waits}
 use Rattle.turns.proofs.Following.{room}
 use Rattle.turns.proofs.asking.ask.Statement.{statement}
 use Rattle.turns.proofs.asking.ask.Tie as tie

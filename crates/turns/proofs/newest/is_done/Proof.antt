@@ -1,7 +1,8 @@
 -- `turns::newest::is_done` meets its contract. Assumes nothing.
 use borrow.Author.Needs.{needs}
 use Rattle.turns.specs.Ready.{passedIn}
-use Rattle.turns.proofs.Sweeps.{and-off, and-on, owned-yes, owned-no}
+use Rattle.base.proofs.Bools.{and-on, and-off}
+use Rattle.turns.proofs.Sweeps.{owned-yes, owned-no}
 use Rattle.table.specs.Layout.{owned}
 use Rattle.turns.proofs.newest.is_done.Statement.{statement}
 use Rattle.turns.proofs.newest.is_done.Tie as tie

@@ -4,7 +4,8 @@ use mathlib.Core.Path.{sym, _∙_, ap}
 use borrow.Author.Tests.{not-true, not-false}
 use borrow.Author.Needs.{needs}
 use Rattle.turns.specs.Ready.{passedIn}
-use Rattle.turns.proofs.Sweeps.{and-off, and-on, owned-yes, owned-no}
+use Rattle.base.proofs.Bools.{and-on, and-off}
+use Rattle.turns.proofs.Sweeps.{owned-yes, owned-no}
 use Rattle.table.specs.Layout.{owned}
 use Rattle.turns.proofs.newest.left_to_pass.Statement.{statement}
 use Rattle.turns.proofs.newest.left_to_pass.Tie as tie

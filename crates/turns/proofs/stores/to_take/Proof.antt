@@ -5,7 +5,7 @@ use mathlib.Core.Path.{sym, _∙_, ap}
 use borrow.Author.Tests.{not-true, not-false}
 use borrow.Author.Needs.{needs}
 use lib.Dec.{eqb}
-use Rattle.turns.proofs.Sweeps.{and-on, and-off}
+use Rattle.base.proofs.Bools.{and-on, and-off}
 use Rattle.turns.proofs.stores.to_take.Statement.{statement}
 use Rattle.turns.proofs.stores.to_take.Tie as tie
 

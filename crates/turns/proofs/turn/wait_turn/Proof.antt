@@ -3,7 +3,7 @@ use Prim.Native.Nat.{_-_}
 use native.Mathlib.Omega.{arith}
 use borrow.Author.Needs.{needs}
 use Rattle.turns.proofs.WholeTurn.{wakes, waits-on}
-use Rattle.turns.proofs.PutQuestion.{made-from}
+use Rattle.turns.proofs.Making.{made-from}
 use Rattle.turns.proofs.Following.{room, awaited-most}
 use Rattle.turns.proofs.turn.wait_turn.Statement.{statement}
 use Rattle.turns.proofs.turn.wait_turn.Tie as tie

@@ -1,0 +1,167 @@
+//! Runs the listing program on edge cases and made inputs and compares what it
+//! writes with the oracle's listings, byte for byte; exit status 1 if any differ.
+//! `listing help` prints the commands.
+
+#[path = "../compare/arguments.rs"]
+mod arguments;
+mod beside;
+mod cost;
+mod inputs;
+mod program;
+mod totals;
+
+use std::process::exit;
+use std::sync::atomic::{AtomicU64, Ordering};
+use std::time::Instant;
+
+use arguments::{kinds_named, refuse};
+use oracle::edges::edge_cases;
+use program::Program;
+use totals::Totals;
+
+const USAGE: &str = "\
+listing                                  all that the gate runs
+listing made KINDS FROM COUNT [whole]    made inputs of these kinds (commas between, or `all`),
+                                         COUNT seeds each, the first of them FROM; with
+                                         `whole` none is left out as too long
+listing edges [whole]                    the edge cases
+
+Kinds: those of `oracle kinds`; `long`, lengths around 65,536; `cut`, inputs cut short;
+`turns`, schedules with workers that aren't; `bytes`, random bytes; `fields`, random
+fields after a header that fits.  ZESTCHINTZ_VERDICTS may name another program than
+target/bin/verdicts.
+";
+
+/// Kinds and how many inputs of each the gate lists.
+const GATE: [(&str, u64); 18] = [
+    ("large", 6),
+    ("tiny", 1200),
+    ("small", 1200),
+    ("damaged", 1200),
+    ("empty", 100),
+    ("negloop", 200),
+    ("strat", 80),
+    ("cluster", 80),
+    ("random", 25),
+    ("ring", 80),
+    ("chain", 25),
+    ("tower", 150),
+    ("table", 100),
+    ("long", 150),
+    ("cut", 500),
+    ("turns", 400),
+    ("bytes", 200),
+    ("fields", 500),
+];
+
+/// How much is done before the program is given up.
+#[derive(Clone, Copy)]
+struct Limits {
+    /// An input is left out when its turns take about so many steps.
+    steps: u64,
+    /// A listing may take so many seconds.
+    seconds: &'static str,
+}
+
+/// Inputs of a few seconds at most.
+const GATE_LIMITS: Limits = Limits { steps: 4_000_000_000, seconds: "120" };
+const NO_LIMITS: Limits = Limits { steps: u64::MAX, seconds: "0" };
+
+/// With so many differences no more inputs are listed.
+const MOST_DIFFERENCES: usize = 10;
+
+const THREADS: usize = 2;
+
+/// Runs one part, numbers from..from + count, in threads, and says what it listed.
+fn part(all: &mut Totals, title: &str, from: u64, count: u64, list: impl Fn(&mut Totals, u64) + Sync) {
+    if all.differences >= MOST_DIFFERENCES {
+        return;
+    }
+    let start = Instant::now();
+    let next = AtomicU64::new(from);
+    let one_thread = || {
+        let mut totals = Totals::default();
+        while totals.differences < MOST_DIFFERENCES {
+            let number = next.fetch_add(1, Ordering::Relaxed);
+            if number >= from + count {
+                break;
+            }
+            list(&mut totals, number);
+        }
+        totals
+    };
+    let mut totals = Totals::default();
+    std::thread::scope(|scope| {
+        let threads: Vec<_> = (0..THREADS).map(|_| scope.spawn(one_thread)).collect();
+        for thread in threads {
+            totals.add(&thread.join().expect("a thread ends by itself"));
+        }
+    });
+    println!(
+        "{title}: {} inputs, {} accepted, {} left out, {} turns, {} differences, {:.1} s",
+        totals.inputs,
+        totals.accepted,
+        totals.left_out,
+        totals.turns(),
+        totals.differences,
+        start.elapsed().as_secs_f64()
+    );
+    all.add(&totals);
+}
+
+fn list_edges(all: &mut Totals, limits: Limits) {
+    let (edges, program) = (edge_cases(), Program::find(limits.seconds));
+    part(all, "edges", 0, edges.len() as u64, |totals, number| {
+        beside::compare(totals, &program, &format!("edge {number}"), &edges[number as usize].bytes, limits.steps);
+    });
+}
+
+fn list_made(all: &mut Totals, kind: &str, from: u64, count: u64, limits: Limits) {
+    let program = Program::find(limits.seconds);
+    part(all, kind, from, count, |totals, seed| {
+        let Some(input) = inputs::made(kind, seed) else {
+            eprintln!("listing: no kind is called {kind}");
+            exit(2);
+        };
+        beside::compare(totals, &program, &format!("{kind} {seed}"), &input, limits.steps);
+    });
+}
+
+fn list_gate(all: &mut Totals) {
+    list_edges(all, GATE_LIMITS);
+    for (kind, count) in GATE {
+        list_made(all, kind, 0, count, GATE_LIMITS);
+    }
+    if all.differences == 0 {
+        all.expect_all_met();
+    }
+}
+
+/// The limits by the last word of the command.
+fn limits_of(words: &[&str]) -> Limits {
+    match words {
+        [] => GATE_LIMITS,
+        ["whole"] => NO_LIMITS,
+        _ => refuse(USAGE),
+    }
+}
+
+fn main() {
+    let arguments: Vec<String> = std::env::args().skip(1).collect();
+    let words: Vec<&str> = arguments.iter().map(String::as_str).collect();
+    let mut all = Totals::default();
+    match words.as_slice() {
+        [] => list_gate(&mut all),
+        ["edges", rest @ ..] => list_edges(&mut all, limits_of(rest)),
+        ["made", kinds, from, count, rest @ ..] => {
+            let (Ok(from), Ok(count)) = (from.parse(), count.parse()) else { refuse(USAGE) };
+            let limits = limits_of(rest);
+            for kind in kinds_named(kinds, &GATE) {
+                list_made(&mut all, &kind, from, count, limits);
+            }
+        }
+        _ => refuse(USAGE),
+    }
+    all.summary();
+    exit(i32::from(all.differences > 0));
+}

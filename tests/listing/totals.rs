@@ -1,0 +1,111 @@
+//! What was listed and what differs.
+
+const KINDS: [&str; 8] = ["idle", "woke", "opened", "waits", "took", "passed", "completed", "answered"];
+const VALUES: [&str; 4] = ["true", "false", "undefined", "unopened"];
+/// The numbers of refusals that a listing can show.
+const NUMBERS: [&str; 9] = ["1", "2", "3", "4", "5", "6", "7", "8", "11"];
+
+#[derive(Default)]
+pub struct Totals {
+    /// Inputs that the program was run on, and those whose turns take too long.
+    pub inputs: usize,
+    pub left_out: usize,
+    pub accepted: usize,
+    refused: [usize; 9],
+    /// Turns of all listings by their kind.
+    kinds: [u64; 8],
+    /// Claim lines by their value.
+    values: [usize; 4],
+    pub differences: usize,
+}
+
+/// The tally of a listing's last line; none where it is a refusal.
+pub fn tally_of(listing: &str) -> Option<[u64; 8]> {
+    let line = listing.lines().last()?.strip_prefix("tally ")?;
+    let counts: Result<Vec<u64>, _> = line.split(' ').map(str::parse).collect();
+    counts.ok()?.try_into().ok()
+}
+
+impl Totals {
+    /// Counts a listing as the oracle has it.
+    pub fn count(&mut self, listing: &str) {
+        self.inputs += 1;
+        let Some(tally) = tally_of(listing) else {
+            let number = listing.split(' ').nth(1);
+            let at = NUMBERS.iter().position(|&name| Some(name) == number).expect("a listing is refused by a number");
+            self.refused[at] += 1;
+            return;
+        };
+        self.accepted += 1;
+        add(&mut self.kinds, &tally);
+        for line in listing.lines().skip(1).take_while(|line| !line.starts_with("questions")) {
+            let at = VALUES.iter().position(|value| line.ends_with(value)).expect("a claim line ends with a value");
+            self.values[at] += 1;
+        }
+    }
+
+    pub fn differ(&mut self, name: &str, what: &str) {
+        self.differences += 1;
+        println!("differs: {name}: {what}");
+    }
+
+    pub fn turns(&self) -> u64 {
+        self.kinds.iter().sum()
+    }
+
+    pub fn add(&mut self, other: &Totals) {
+        self.inputs += other.inputs;
+        self.left_out += other.left_out;
+        self.accepted += other.accepted;
+        self.differences += other.differences;
+        add(&mut self.refused, &other.refused);
+        add(&mut self.kinds, &other.kinds);
+        add(&mut self.values, &other.values);
+    }
+
+    /// The gate must meet every kind of turn, every value and every refusal.
+    pub fn expect_all_met(&mut self) {
+        let mut missing = unmet(&KINDS, &self.kinds.map(|count| count as usize));
+        missing.extend(unmet(&VALUES, &self.values));
+        missing.extend(unmet(&NUMBERS, &self.refused).iter().map(|number| format!("refusal {number}")));
+        for name in missing {
+            self.differ("the gate", &format!("{name} was never met"));
+        }
+    }
+
+    /// The last lines: what was met, and how many differ.
+    pub fn summary(&self) {
+        println!("turns: {}", listed(&KINDS, &self.kinds));
+        println!("claim lines: {}", listed(&VALUES, &self.values));
+        let rows: Vec<String> =
+            NUMBERS.iter().zip(self.refused).map(|(name, count)| format!("{name}: {count}")).collect();
+        println!("refused by number {}", rows.join(", "));
+        if self.differences > 0 {
+            println!("a made input alone: listing made KIND SEED 1");
+        }
+        println!(
+            "{} inputs listed ({} accepted with {} turns, {} refused; {} left out as too long), {} differences",
+            self.inputs,
+            self.accepted,
+            self.turns(),
+            self.refused.iter().sum::<usize>(),
+            self.left_out,
+            self.differences
+        );
+    }
+}
+
+fn add<N: Copy + std::ops::AddAssign>(sums: &mut [N], counts: &[N]) {
+    for (sum, &count) in sums.iter_mut().zip(counts) {
+        *sum += count;
+    }
+}
+
+fn listed<N: std::fmt::Display>(names: &[&str], counts: &[N]) -> String {
+    let each: Vec<String> = names.iter().zip(counts).map(|(name, count)| format!("{name} {count}")).collect();
+    each.join(", ")
+}
+
+fn unmet(names: &[&str], counts: &[usize]) -> Vec<String> {
+    names.iter().zip(counts).filter(|(_, &count)| count == 0).map(|(name, _)| name.to_string()).collect()
+}
