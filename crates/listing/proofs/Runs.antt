@@ -6,7 +6,6 @@
 --   counts-none, -more, -whole       counts of the tally: none yet; one more; the whole line
 --   firstLines s t k, first-none, -more, -whole   the lines of the first k questions: none yet; one more; all
 --   tally-length                     a tally has eight counts
---   answers-room                     a table that is long enough for the job has the words of its questions
 use Prim.Native.Nat.{ℕ, zero, suc, _+_, _*_, _≤_, _<_}
 use mathlib.Core.Path.{_≡_, refl, sym, _∙_, ap, ap₂}
 use mathlib.Core.List.{List, [], _∷_, _++_, flatMap, append-assoc, append-nil}
@@ -23,7 +22,6 @@ use Rattle.job.specs.Job.{Job}
 use Rattle.job.specs.Accepted.{WellFormed}
 use Rattle.job.specs.Format.{claims, rules, literals, workers, questions, questionByte, questionAt, jobOf}
 use Rattle.job.specs.declared.Question.{Question}
-use Rattle.job.proofs.Written.{questions-count}
 use Rattle.table.specs.declared.Reading.{Reading}
 use Rattle.table.specs.Reading.{readingOf}
 use Rattle.table.specs.Layout.{used, mark, answerWord}
@@ -208,10 +206,6 @@ put-question-line s t k {g = g} {v = v} em el eg ea ew ex ev p =
     ev ∙ ap (λ (n : ℕ). readingOf (255 + n)) (ex ∙ ap₂ (λ (a′ w′ : ℕ). getD t (8 + 3 * a′ + 2 * w′ + k) 0) ea ew) in
     let z : g ≡ questionAt s (rules s) (literals s) k = eg ∙ ap₂ (λ (m′ l′ : ℕ). questionAt s m′ l′ k) em el in
     rw (z, y) at p
-
-pub answers-room : (s t : List ℕ) → used (jobOf s) ≤ length t → 8 + 3 * claims s + 2 * workers s + questions s ≤ length t
-unfolding jobOf
-answers-room s t h = omega (arith, h, questions-count s)
 
 -- lines of questions, one more at the end
 lines-snoc :

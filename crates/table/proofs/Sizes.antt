@@ -10,7 +10,7 @@ use Rattle.base.proofs.Compare.{over-yes, over-no, differs-yes, differs-no}
 use Rattle.base.proofs.Span.{length-span}
 use Rattle.job.specs.Format.{claims, workers, questions, jobOf}
 use Rattle.job.specs.Job.{Job}
-use Rattle.table.specs.Layout.{header}
+use Rattle.table.specs.Layout.{used, header}
 use Rattle.table.specs.Ranges.{badHeader}
 
 pub record Sizes (s : List ℕ) : Type 0 where
@@ -21,6 +21,10 @@ pub record Sizes (s : List ℕ) : Type 0 where
 pub sizes : (s : List ℕ) → Sizes s
 unfolding jobOf
 sizes s = record { claims-are = refl; workers-are = refl; questions-are = length-span _ 0 (questions s) }
+
+-- a table that is long enough has the words of its claims, workers and questions
+pub words-room : (s t : List ℕ) → used (jobOf s) ≤ length t → 8 + 3 * claims s + 2 * workers s + questions s ≤ length t
+words-room s t h = let z = sizes s in omega (arith, h)
 
 -- the header's words from counts that were read
 pub header-is : (s : List ℕ) (a t q : ℕ) → a ≡ claims s → t ≡ workers s → q ≡ questions s → (8 + 3 * a + 2 * t + q) ∷ a ∷ t ∷ q ∷ 8 ∷ (8 + 3 * a) ∷ (8 + 3 * a + 2 * t) ∷ [] ≡ header (jobOf s)

@@ -11,7 +11,7 @@ use lib.ListN.{length, getD}
 use Rattle.base.specs.Choose.{pick}
 use Rattle.job.specs.Job.{Job}
 use Rattle.job.specs.Format.{claims, workers, questions, jobOf}
-use Rattle.job.proofs.Written.{questions-count}
+use Rattle.table.proofs.Sizes.{words-room}
 use Rattle.job.specs.Accepted.{WellFormed}
 use Rattle.table.specs.Layout.{mark, awaited, answered}
 use Rattle.table.specs.Ranges.{InRange}
@@ -65,8 +65,7 @@ module _ (j : Job) (t : List ℕ) (w : ℕ) where
 -- the words that a turn reads are there, and show claims and workers of the job
 module _ (s t : List ℕ) (r : InRange (jobOf s) t) where
   pub room : 8 + 3 * claims s + 2 * workers s + questions s ≤ length t
-  unfolding jobOf
-  room = omega (arith, r .room, questions-count s)
+  room = words-room s t (r .room)
 
   pub awaited-most : (w : ℕ) → w < workers s → awaited (jobOf s) t w ≤ claims s
   unfolding jobOf

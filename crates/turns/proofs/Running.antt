@@ -9,6 +9,7 @@ use lib.Seq.{drop-cons, drop-length}
 use Rattle.job.specs.Format.{workers, jobOf}
 use Rattle.job.specs.Accepted.{WellFormed}
 use Rattle.table.specs.Ranges.{InRange}
+use Rattle.table.proofs.Sizes.{zeros-at}
 use Rattle.turns.specs.Turn.{kindNumber, turn, runTable, runKinds}
 use Rattle.turns.specs.Calls.{counted, tally}
 use Rattle.turns.specs.Ready.{Made}
@@ -16,7 +17,7 @@ use Rattle.turns.specs.declared.Kind.{Kind}
 use Rattle.turns.proofs.Jobs.{job-ok}
 use Rattle.turns.proofs.Range.{turn-in-range}
 use Rattle.turns.proofs.Lengths.{turn-length}
-use Rattle.turns.proofs.Tallies.{zeros, one-more}
+use Rattle.turns.proofs.Tallies.{one-more}
 
 -- after i turns of the schedule ws, the table t₀ is t, and the tally is counts
 pub record Partly (s t₀ ws : List ℕ) (i : ℕ) (t counts : List ℕ) : Type 0 where
@@ -37,7 +38,7 @@ module _ (s t₀ ws : List ℕ) where
         long = refl;
         tables = refl;
         tallies = ap (λ (x : List ℕ). counted x (runKinds (jobOf s) t₀ ws)) (sym e);
-        small = λ k. omega (arith, ap (λ (x : List ℕ). getD x k 0) e, zeros 8 k);
+        small = λ k. omega (arith, ap (λ (x : List ℕ). getD x k 0) e, zeros-at 8 k);
       }
 
   module _ (good : WellFormed s) {i : ℕ} {t counts : List ℕ} (p : Partly s t₀ ws i t counts) (some : i < length ws) {w : ℕ} (named : w ≡ getD ws i 0) (low : w < workers s) {kind : Kind} {u next : List ℕ} (made : Made (turn (jobOf s) t w) kind u) (count : next ≡ set counts (kindNumber kind) (getD counts (kindNumber kind) 0 + 1)) where

@@ -3,7 +3,7 @@
 --   counted-append   counting some turns, then others
 --   tally-append     the same from the first turn on
 --   tally-few        no count of a tally is above the number of its turns
-use Prim.Native.Nat.{ℕ, zero, suc, _+_, _≤_}
+use Prim.Native.Nat.{ℕ, _+_, _≤_}
 use mathlib.Core.Path.{_≡_, refl}
 use mathlib.Core.List.{List, [], _∷_, _++_}
 use mathlib.Core.Logic.{by-cases}
@@ -11,14 +11,10 @@ use native.Mathlib.Omega.{arith}
 use native.Mathlib.Decide.{ℕ-discrete, decLt}
 use lib.ListN.{length, getD, set, replicate}
 use lib.Seq.{getD-set-same, getD-set-other, set-out}
+use Rattle.table.proofs.Sizes.{zeros-at}
 use Rattle.turns.specs.Turn.{kindNumber}
 use Rattle.turns.specs.Calls.{counted, tally}
 use Rattle.turns.specs.declared.Kind.{Kind}
-
-pub zeros : (n k : ℕ) → _≡_ {A = ℕ} (getD (replicate n 0) k 0) 0
-zeros zero k = refl
-zeros (suc n) zero = refl
-zeros (suc n) (suc k) = zeros n k
 
 pub one-more : (counts : List ℕ) (k d : ℕ) → getD (set counts k (getD counts k 0 + 1)) d 0 ≤ getD counts d 0 + 1
 one-more counts k d =
@@ -45,4 +41,4 @@ counted-few counts (k ∷ ks) d =
 
 pub tally-few : (ks : List Kind) (d : ℕ) → getD (tally ks) d 0 ≤ length ks
 unfolding tally
-tally-few ks d = omega (arith, counted-few (replicate 8 0) ks d, zeros 8 d)
+tally-few ks d = omega (arith, counted-few (replicate 8 0) ks d, zeros-at 8 d)

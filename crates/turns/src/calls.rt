@@ -2,7 +2,6 @@
 // and place and no word altered, and else gives what specs/Calls says.
 ghost use mathlib.Core.Path.{_≡_};
 ghost use Prim.Native.Nat.{ℕ};
-ghost use Rattle.job.specs.Bytes.{Number};
 ghost use Rattle.job.specs.Rows.{_⨾_};
 ghost use Rattle.job.specs.Format.{jobOf};
 ghost use Rattle.job.specs.Checks.{checkJob};
@@ -21,12 +20,6 @@ use job::Check;
 use job::claims;
 use job::format;
 use table::words;
-
-fn wide(b: u8) -> usize
-    ensures { λ r. ⌜ Number r b 256 ⌝ }
-{
-    b as usize
-}
 
 // Starts a table for a job: rows 1 to 9. Of an accepted job every list of calls from a started table keeps demands 2 and 3.
 pub fn start(job: &[u8], table: &mut [u32]) -> Check
@@ -151,7 +144,7 @@ pub fn check_schedule(job: &[u8], schedule: &[u8]) -> Check
 {
     let workers = format::worker_count(job);
     for i in 0..schedule.len() {
-        if workers <= wide(schedule[i]) {
+        if workers <= schedule::wide(schedule[i]) {
             return Check::Refused {
                 number: 11,
                 place: i,

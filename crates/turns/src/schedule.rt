@@ -10,7 +10,8 @@ ghost use Rattle.turns.specs.Ready.{Ready};
 use crate::tally;
 use crate::turn;
 
-fn wide(b: u8) -> usize
+// The worker that a byte of a schedule names.
+pub fn wide(b: u8) -> usize
     ensures { λ r. ⌜ Number r b 256 ⌝ }
 {
     b as usize

@@ -39,12 +39,14 @@ wide-requires c κs = tt
 returns : tie.Need-returns Inv-loop μ-loop
 unfolding jobOf
 returns c =
-    let p = c .before .before .before .before .before .before .before .before .before .before in
-    let l = c .before .before .before .before .before .loop in
-    let s = p .args .job .now in
-    let t = p .args .table .now in
-    let a = answered-read s t (l .w) (c .before .before .before .before .before .before .before .claim-count .ensures .value) (c .before .before .before .answered-at .ensures .value) in
-    let n = c .before .wide .ensures .value ∙ p .pre .1 .1 (l .w) (omega arith) in
+    let c₁ = c .before .before .before .before .before in
+    let c₂ = c₁ .before .before in
+    let c₃ = c₂ .before .before .before in
+    let l = c₁ .loop in
+    let s = c₃ .args .job .now in
+    let t = c₃ .args .table .now in
+    let a = answered-read s t (l .w) (c₂ .claim-count .ensures .value) (c .before .before .before .answered-at .ensures .value) in
+    let n = c .before .wide .ensures .value ∙ c₃ .pre .1 .1 (l .w) (omega arith) in
     rest-fails s t (l .inv) (omega arith) a n (omega arith)
 
 add-w : tie.Need-add-w Inv-loop μ-loop
@@ -56,12 +58,14 @@ loop-less c = omega arith
 loop-again : tie.Need-loop-again Inv-loop μ-loop
 unfolding jobOf
 loop-again c =
-    let p = c .before .before .before .before .before .before .before .before .before .before in
-    let l = c .before .before .before .before .before .loop in
-    let s = p .args .job .now in
-    let t = p .args .table .now in
-    let a = answered-read s t (l .w) (c .before .before .before .before .before .before .before .claim-count .ensures .value) (c .before .before .before .answered-at .ensures .value) in
-    let n = c .before .wide .ensures .value ∙ p .pre .1 .1 (l .w) (omega arith) in
+    let c₁ = c .before .before .before .before .before in
+    let c₂ = c₁ .before .before in
+    let c₃ = c₂ .before .before .before in
+    let l = c₁ .loop in
+    let s = c₃ .args .job .now in
+    let t = c₃ .args .table .now in
+    let a = answered-read s t (l .w) (c₂ .claim-count .ensures .value) (c .before .before .before .answered-at .ensures .value) in
+    let n = c .before .wide .ensures .value ∙ c₃ .pre .1 .1 (l .w) (omega arith) in
     rest-next s t (l .inv) (omega arith) a n (omega arith)
 
 returns-2 : tie.Need-returns-2 Inv-loop μ-loop

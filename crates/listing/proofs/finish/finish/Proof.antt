@@ -24,13 +24,19 @@ loop-holds c =
     going-start _ _ _ (p .0 .job) (p .0 .table) (p .1) (c .most-turns .ensures .value) (c .most-turns .ensures .small)
 
 all-answered-requires : tie.Need-all-answered-requires Inv-loop μ-loop
-all-answered-requires c κs = (c .before .before .before .before .before .before .before .before .pre .0 .job, (c .before .before .before .loop .inv .range, c .before .before .before .before .before .count-questions .ensures))
+all-answered-requires c κs =
+    let c₁ = c .before .before .before .before .before in
+    let c₂ = c₁ .before .before .before in
+    (c₂ .pre .0 .job, (c .before .before .before .loop .inv .range, c₁ .count-questions .ensures))
 
 same-length : tie.Need-same-length Inv-loop μ-loop
 same-length c = c .before .before .before .before .before .loop .inv .long
 
 returns : tie.Need-returns Inv-loop μ-loop
-returns c = going-stop _ _ _ (c .before .before .before .before .before .before .before .before .before .before .pre .0 .job) (c .before .before .before .before .before .loop .inv) (sym (c .if1 .taken) ∙ c .before .all-answered .ensures)
+returns c =
+    let c₁ = c .before .before .before .before .before in
+    let c₂ = c₁ .before .before .before .before .before in
+    going-stop _ _ _ (c₂ .pre .0 .job) (c₁ .loop .inv) (sym (c .if1 .taken) ∙ c .before .all-answered .ensures)
 
 take-turn-requires : tie.Need-take-turn-requires Inv-loop μ-loop
 take-turn-requires c κs =
@@ -39,10 +45,15 @@ take-turn-requires c κs =
     (record { job = p .job; indexed = p .indexed; table = l .range }, l .low)
 
 counted-requires : tie.Need-counted-requires Inv-loop μ-loop
-counted-requires c κs = λ k. omega (arith, c .before .before .before .before .before .before .before .before .before .loop .inv .small k)
+counted-requires c κs =
+    let c₁ = c .before .before .before .before .before .before .before .before .before in
+    λ k. omega (arith, c₁ .loop .inv .small k)
 
 next-worker-requires : tie.Need-next-worker-requires Inv-loop μ-loop
-next-worker-requires c κs = (c .before .before .before .before .before .before .before .before .before .before .before .before .before .before .before .pre .0 .job, c .before .before .before .before .before .before .before .before .before .before .loop .inv .low)
+next-worker-requires c κs =
+    let c₁ = c .before .before .before .before .before .before .before .before .before .before in
+    let c₂ = c₁ .before .before .before .before .before in
+    (c₂ .pre .0 .job, c₁ .loop .inv .low)
 
 sub-left : tie.Need-sub-left Inv-loop μ-loop
 sub-left c = omega arith
@@ -52,7 +63,12 @@ loop-less c = omega arith
 
 loop-again : tie.Need-loop-again Inv-loop μ-loop
 loop-again c =
-    going-on _ _ _ (c .before .before .before .before .before .before .before .before .before .before .before .before .before .before .before .before .pre .0 .job) (c .before .before .before .before .before .before .before .before .before .before .before .loop .inv) (omega arith) (sym (c .before .before .before .before .before .before .if1 .left) ∙ c .before .before .before .before .before .before .before .all-answered .ensures) (c .before .before .before .before .take-turn .ensures) (c .before .counted .ensures) (c .next-worker .ensures)
+    let c₁ = c .before .before .before .before in
+    let c₂ = c₁ .before .before in
+    let c₃ = c₂ .before in
+    let c₄ = c₃ .before .before .before .before in
+    let c₅ = c₄ .before .before .before .before .before in
+    going-on _ _ _ (c₅ .pre .0 .job) (c₄ .loop .inv) (omega arith) (sym (c₂ .if1 .left) ∙ c₃ .all-answered .ensures) (c₁ .take-turn .ensures) (c .before .counted .ensures) (c .next-worker .ensures)
 
 same-length-2 : tie.Need-same-length-2 Inv-loop μ-loop
 same-length-2 c = c .before .loop .inv .long

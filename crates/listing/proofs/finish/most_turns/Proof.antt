@@ -30,10 +30,14 @@ worker-count-requires : tie.Need-worker-count-requires
 worker-count-requires c κs = search needs
 
 mul-result : tie.Need-mul-result
-mul-result c = omega (arith, most-small _ (c .before .before .before .before .before .pre) (c .before .before .before .literal-count .ensures .value) (c .before .before .claim-count .ensures .value) (c .before .question-count .ensures .value) (c .worker-count .ensures .value))
+mul-result c =
+    let c₁ = c .before .before .before .before .before in
+    omega (arith, most-small _ (c₁ .pre) (c .before .before .before .literal-count .ensures .value) (c .before .before .claim-count .ensures .value) (c .before .question-count .ensures .value) (c .worker-count .ensures .value))
 
 returns : tie.Need-returns
-returns c = record { value = most-is _ (c .before .before .before .before .before .pre) (c .before .before .before .literal-count .ensures .value) (c .before .before .claim-count .ensures .value) (c .before .question-count .ensures .value) (c .worker-count .ensures .value); small = most-small _ (c .before .before .before .before .before .pre) (c .before .before .before .literal-count .ensures .value) (c .before .before .claim-count .ensures .value) (c .before .question-count .ensures .value) (c .worker-count .ensures .value) }
+returns c =
+    let c₁ = c .before .before .before .before .before in
+    record { value = most-is _ (c₁ .pre) (c .before .before .before .literal-count .ensures .value) (c .before .before .claim-count .ensures .value) (c .before .question-count .ensures .value) (c .worker-count .ensures .value); small = most-small _ (c₁ .pre) (c .before .before .before .literal-count .ensures .value) (c .before .before .claim-count .ensures .value) (c .before .question-count .ensures .value) (c .worker-count .ensures .value) }
 
 pub most-turns-spec : {M : Type 1} → statement M
 most-turns-spec =

@@ -14,24 +14,37 @@ put-byte-requires : tie.Need-put-byte-requires
 put-byte-requires c κs = omega (arith, length-room (c .before .before .before .before .before .before .args .worker) (omega arith))
 
 put-number-requires-2 : tie.Need-put-number-requires-2
-put-number-requires-2 c κs = omega (arith, length-room (c .before .before .before .before .before .before .before .before .before .before .args .worker) (omega arith), length-room (c .before .before .before .before .before .before .before .before .before .before .args .claim) (omega arith))
+put-number-requires-2 c κs =
+    let c₁ = c .before .before .before .before .before .before .before .before .before .before in
+    omega (arith, length-room (c₁ .args .worker) (omega arith), length-room (c₁ .args .claim) (omega arith))
 
 put-byte-requires-2 : tie.Need-put-byte-requires-2
-put-byte-requires-2 c κs = omega (arith, length-room (c .before .before .before .before .before .before .before .before .before .before .before .before .before .before .args .worker) (omega arith), length-room (c .before .before .before .before .before .before .before .before .before .before .before .before .before .before .args .claim) (omega arith))
+put-byte-requires-2 c κs =
+    let c₁ = c .before .before .before .before .before .before .before .before .before .before .before .before .before .before in
+    omega (arith, length-room (c₁ .args .worker) (omega arith), length-room (c₁ .args .claim) (omega arith))
 
 put-reading-requires : tie.Need-put-reading-requires
-put-reading-requires c κs = omega (arith, length-room (c .before .before .before .before .before .before .before .before .before .before .before .before .before .before .before .before .before .before .args .worker) (omega arith), length-room (c .before .before .before .before .before .before .before .before .before .before .before .before .before .before .before .before .before .before .args .claim) (omega arith), name-room (c .before .before .before .before .before .before .before .before .before .before .before .before .before .before .before .before .before .before .args .reading))
+put-reading-requires c κs =
+    let c₁ = c .before .before .before .before .before .before .before .before .before .before .before .before .before .before .before .before .before .before in
+    omega (arith, length-room (c₁ .args .worker) (omega arith), length-room (c₁ .args .claim) (omega arith), name-room (c₁ .args .reading))
 
 put-byte-requires-3 : tie.Need-put-byte-requires-3
-put-byte-requires-3 c κs = omega (arith, length-room (c .before .before .before .before .before .before .before .before .before .before .before .before .before .before .before .before .before .before .before .before .before .before .args .worker) (omega arith), length-room (c .before .before .before .before .before .before .before .before .before .before .before .before .before .before .before .before .before .before .before .before .before .before .args .claim) (omega arith), name-room (c .before .before .before .before .before .before .before .before .before .before .before .before .before .before .before .before .before .before .before .before .before .before .args .reading))
+put-byte-requires-3 c κs =
+    let c₁ = c .before .before .before .before .before .before .before .before .before .before .before .before .before .before .before .before .before .before .before .before .before .before in
+    omega (arith, length-room (c₁ .args .worker) (omega arith), length-room (c₁ .args .claim) (omega arith), name-room (c₁ .args .reading))
 
 same-length : tie.Need-same-length
 same-length c = search needs
 
 returns : tie.Need-returns
 returns c =
-    let a = c .before .before .before .before .before .before .before .before .before .before .before .before .before .before .before .before .before .before .before .before .before .before .before .before .before in
-    put-answer-line (a .args .worker) (a .args .claim) (a .args .reading) (omega arith) (omega arith) (omega arith) (c .before .before .before .before .before .before .before .before .before .before .before .before .before .before .before .before .before .before .before .before .before .before .put-number .ensures) (c .before .before .before .before .before .before .before .before .before .before .before .before .before .before .before .before .before .before .put-byte .ensures) (c .before .before .before .before .before .before .before .before .before .before .before .before .before .before .put-number2 .ensures) (c .before .before .before .before .before .before .before .before .before .before .put-byte2 .ensures) (c .before .before .before .before .before .before .put-reading .ensures) (c .before .before .put-byte3 .ensures)
+    let c₁ = c .before .before .before .before .before .before in
+    let c₂ = c₁ .before .before .before .before in
+    let c₃ = c₂ .before .before .before .before in
+    let c₄ = c₃ .before .before .before .before in
+    let c₅ = c₄ .before .before .before .before in
+    let c₆ = c₅ .before .before .before in
+    put-answer-line (c₆ .args .worker) (c₆ .args .claim) (c₆ .args .reading) (omega arith) (omega arith) (omega arith) (c₅ .put-number .ensures) (c₄ .put-byte .ensures) (c₃ .put-number2 .ensures) (c₂ .put-byte2 .ensures) (c₁ .put-reading .ensures) (c .before .before .put-byte3 .ensures)
 
 pub put-answer-spec : {M : Type 1} → statement M
 put-answer-spec =

@@ -28,7 +28,10 @@ loop-less : tie.Need-loop-less Inv-loop μ-loop
 loop-less c = omega arith
 
 loop-again : tie.Need-loop-again Inv-loop μ-loop
-loop-again c = (omega arith, claims-more (c .before .before .before .before .before .before .before .before .args .table .now) (c .before .before .before .before .before .loop .c) (omega arith) (omega arith) (c .before .before .before .before .before .loop .inv .1) (c .before .before .put-claim .ensures))
+loop-again c =
+    let c₁ = c .before .before .before .before .before in
+    let c₂ = c₁ .before .before .before in
+    (omega arith, claims-more (c₂ .args .table .now) (c₁ .loop .c) (omega arith) (omega arith) (c₁ .loop .inv .1) (c .before .before .put-claim .ensures))
 
 same-length : tie.Need-same-length Inv-loop μ-loop
 same-length c = run-size (omega arith) (c .before .loop .inv .1)

@@ -16,7 +16,9 @@ same-length : tie.Need-same-length
 same-length c = search needs
 
 returns : tie.Need-returns
-returns c = put-counted (omega arith) (omega arith) (c .before .before .before .before .before .before .put-byte .ensures) (c .before .before .put-number .ensures)
+returns c =
+    let c₁ = c .before .before .before .before .before .before in
+    put-counted (omega arith) (omega arith) (c₁ .put-byte .ensures) (c .before .before .put-number .ensures)
 
 pub put-count-spec : {M : Type 1} → statement M
 put-count-spec = tie.close (tie.spec put-byte-requires put-number-requires same-length returns)

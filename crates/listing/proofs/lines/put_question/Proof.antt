@@ -1,7 +1,8 @@
 -- `listing::lines::put_question` meets its contract. Assumes nothing.
 use native.Mathlib.Omega.{arith}
 use borrow.Author.Needs.{needs}
-use Rattle.listing.proofs.Runs.{answers-room, put-question-line}
+use Rattle.table.proofs.Sizes.{words-room}
+use Rattle.listing.proofs.Runs.{put-question-line}
 use Rattle.listing.proofs.lines.put_question.Statement.{statement}
 use Rattle.listing.proofs.lines.put_question.Tie as tie
 
@@ -36,7 +37,9 @@ add-word-at : tie.Need-add-word-at
 add-word-at c = search needs
 
 word-at-requires : tie.Need-word-at-requires
-word-at-requires c κs = omega (arith, answers-room (c .before .before .before .before .before .before .before .before .args .job .now) (c .before .before .before .before .before .before .before .before .args .table .now) (omega arith))
+word-at-requires c κs =
+    let c₁ = c .before .before .before .before .before .before .before .before in
+    omega (arith, words-room (c₁ .args .job .now) (c₁ .args .table .now) (omega arith))
 
 add-reading-of : tie.Need-add-reading-of
 add-reading-of c = search needs
@@ -52,8 +55,15 @@ same-length c = search needs
 
 returns : tie.Need-returns
 returns c =
-    let a = c .before .before .before .before .before .before .before .before .before .before .before .before .before .before in
-    put-question-line (a .args .job .now) (a .args .table .now) (a .args .k) (c .before .before .before .before .before .before .before .before .before .before .rule-count .ensures .value) (c .before .before .before .before .before .before .before .before .before .literal-count .ensures .value) (c .before .before .before .before .before .before .before .before .question-at .ensures) (c .before .before .before .before .before .before .before .claim-count .ensures .value) (c .before .before .before .before .before .before .worker-count .ensures .value) (c .before .before .before .before .before .word-at .ensures .value) (c .before .before .before .before .reading-of .ensures) (c .before .before .put-answer .ensures)
+    let c₁ = c .before .before .before .before in
+    let c₂ = c₁ .before in
+    let c₃ = c₂ .before in
+    let c₄ = c₃ .before in
+    let c₅ = c₄ .before in
+    let c₆ = c₅ .before in
+    let c₇ = c₆ .before in
+    let c₈ = c₇ .before .before .before .before in
+    put-question-line (c₈ .args .job .now) (c₈ .args .table .now) (c₈ .args .k) (c₇ .rule-count .ensures .value) (c₆ .literal-count .ensures .value) (c₅ .question-at .ensures) (c₄ .claim-count .ensures .value) (c₃ .worker-count .ensures .value) (c₂ .word-at .ensures .value) (c₁ .reading-of .ensures) (c .before .before .put-answer .ensures)
 
 pub put-question-spec : {M : Type 1} → statement M
 put-question-spec =

@@ -13,7 +13,9 @@ put-number-requires : tie.Need-put-number-requires
 put-number-requires c κs = omega (arith, length-room (c .before .before .before .before .before .before .args .questions) (omega arith))
 
 put-byte-requires : tie.Need-put-byte-requires
-put-byte-requires c κs = omega (arith, length-room (c .before .before .before .before .before .before .before .before .before .before .args .questions) (omega arith))
+put-byte-requires c κs =
+    let c₁ = c .before .before .before .before .before .before .before .before .before .before in
+    omega (arith, length-room (c₁ .args .questions) (omega arith))
 
 same-length : tie.Need-same-length
 same-length c = search needs

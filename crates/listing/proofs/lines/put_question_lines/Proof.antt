@@ -17,7 +17,9 @@ question-count-requires : tie.Need-question-count-requires Inv-loop μ-loop
 question-count-requires c κs = omega arith
 
 loop-holds : tie.Need-loop-holds Inv-loop μ-loop
-loop-holds c = (c .question-count .ensures .value, omega arith, first-none (c .before .before .before .before .args .job .now) (c .before .before .before .before .args .table .now) _ _)
+loop-holds c =
+    let c₁ = c .before .before .before .before in
+    (c .question-count .ensures .value, omega arith, first-none (c₁ .args .job .now) (c₁ .args .table .now) _ _)
 
 put-question-requires : tie.Need-put-question-requires Inv-loop μ-loop
 put-question-requires c κs =
@@ -32,8 +34,9 @@ loop-less c = omega arith
 
 loop-again : tie.Need-loop-again Inv-loop μ-loop
 loop-again c =
-    let a = c .before .before .before .before .before .before .before .before .before .before in
-    (c .before .before .before .before .before .loop .inv .0, omega arith, first-more (a .args .job .now) (a .args .table .now) (a .pre .0) (c .before .before .before .before .before .loop .k) (omega arith) (omega arith) (c .before .before .before .before .before .loop .inv .2) (c .before .before .put-question .ensures))
+    let c₁ = c .before .before .before .before .before in
+    let c₂ = c₁ .before .before .before .before .before in
+    (c₁ .loop .inv .0, omega arith, first-more (c₂ .args .job .now) (c₂ .args .table .now) (c₂ .pre .0) (c₁ .loop .k) (omega arith) (omega arith) (c₁ .loop .inv .2) (c .before .before .put-question .ensures))
 
 same-length : tie.Need-same-length Inv-loop μ-loop
 same-length c = run-size (omega arith) (c .before .loop .inv .2)

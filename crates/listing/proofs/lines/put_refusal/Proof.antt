@@ -13,19 +13,30 @@ put-number-requires : tie.Need-put-number-requires
 put-number-requires c κs = omega (arith, length-room (c .before .before .before .before .before .before .args .number) (omega arith))
 
 put-byte-requires : tie.Need-put-byte-requires
-put-byte-requires c κs = omega (arith, length-room (c .before .before .before .before .before .before .before .before .before .before .args .number) (omega arith))
+put-byte-requires c κs =
+    let c₁ = c .before .before .before .before .before .before .before .before .before .before in
+    omega (arith, length-room (c₁ .args .number) (omega arith))
 
 put-number-requires-2 : tie.Need-put-number-requires-2
-put-number-requires-2 c κs = omega (arith, length-room (c .before .before .before .before .before .before .before .before .before .before .before .before .before .before .args .number) (omega arith), length-room (c .before .before .before .before .before .before .before .before .before .before .before .before .before .before .args .place) (omega arith))
+put-number-requires-2 c κs =
+    let c₁ = c .before .before .before .before .before .before .before .before .before .before .before .before .before .before in
+    omega (arith, length-room (c₁ .args .number) (omega arith), length-room (c₁ .args .place) (omega arith))
 
 put-byte-requires-2 : tie.Need-put-byte-requires-2
-put-byte-requires-2 c κs = omega (arith, length-room (c .before .before .before .before .before .before .before .before .before .before .before .before .before .before .before .before .before .before .args .number) (omega arith), length-room (c .before .before .before .before .before .before .before .before .before .before .before .before .before .before .before .before .before .before .args .place) (omega arith))
+put-byte-requires-2 c κs =
+    let c₁ = c .before .before .before .before .before .before .before .before .before .before .before .before .before .before .before .before .before .before in
+    omega (arith, length-room (c₁ .args .number) (omega arith), length-room (c₁ .args .place) (omega arith))
 
 same-length : tie.Need-same-length
 same-length c = search needs
 
 returns : tie.Need-returns
-returns c = put-refusal-line (omega arith) (omega arith) (omega arith) (c .before .before .before .before .before .before .before .before .before .before .before .before .before .before .before .before .before .before .put-refused .ensures) (c .before .before .before .before .before .before .before .before .before .before .before .before .before .before .put-number .ensures) (c .before .before .before .before .before .before .before .before .before .before .put-byte .ensures) (c .before .before .before .before .before .before .put-number2 .ensures) (c .before .before .put-byte2 .ensures)
+returns c =
+    let c₁ = c .before .before .before .before .before .before in
+    let c₂ = c₁ .before .before .before .before in
+    let c₃ = c₂ .before .before .before .before in
+    let c₄ = c₃ .before .before .before .before in
+    put-refusal-line (omega arith) (omega arith) (omega arith) (c₄ .put-refused .ensures) (c₃ .put-number .ensures) (c₂ .put-byte .ensures) (c₁ .put-number2 .ensures) (c .before .before .put-byte2 .ensures)
 
 pub put-refusal-spec : {M : Type 1} → statement M
 put-refusal-spec =

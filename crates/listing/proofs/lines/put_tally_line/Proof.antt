@@ -27,7 +27,8 @@ element-copy-out-put-count : tie.Need-element-copy-out-put-count Inv-loop μ-loo
 element-copy-out-put-count c = omega arith
 
 put-count-requires : tie.Need-put-count-requires Inv-loop μ-loop
-put-count-requires c κs = omega (arith, c .before .before .before .loop .inv .1 .few, c .before .before .before .loop .inv .1 .put .next, run-size (omega arith) (c .before .before .before .loop .inv .1))
+put-count-requires c κs =
+    omega (arith, c .before .before .before .loop .inv .1 .few, c .before .before .before .loop .inv .1 .put .next, run-size (omega arith) (c .before .before .before .loop .inv .1))
 
 add-i : tie.Need-add-i Inv-loop μ-loop
 add-i c = omega arith
@@ -36,7 +37,10 @@ loop-less : tie.Need-loop-less Inv-loop μ-loop
 loop-less c = omega arith
 
 loop-again : tie.Need-loop-again Inv-loop μ-loop
-loop-again c = (omega arith, counts-more (c .before .before .before .before .before .before .before .before .before .before .before .before .args .counts .now) (c .before .before .before .before .before .before .loop .i) (omega arith) (omega arith) (c .before .before .before .before .before .before .loop .inv .1) (c .before .before .put-count .ensures))
+loop-again c =
+    let c₁ = c .before .before .before .before .before .before in
+    let c₂ = c₁ .before .before .before .before .before .before in
+    (omega arith, counts-more (c₂ .args .counts .now) (c₁ .loop .i) (omega arith) (omega arith) (c₁ .loop .inv .1) (c .before .before .put-count .ensures))
 
 put-byte-requires : tie.Need-put-byte-requires Inv-loop μ-loop
 put-byte-requires c κs = omega (arith, c .before .before .loop .inv .1 .few, c .before .before .loop .inv .1 .put .next, run-size (omega arith) (c .before .before .loop .inv .1))
@@ -45,7 +49,11 @@ same-length : tie.Need-same-length Inv-loop μ-loop
 same-length c = omega (arith, run-size (omega arith) (c .before .before .before .before .before .loop .inv .1))
 
 returns : tie.Need-returns Inv-loop μ-loop
-returns c = counts-whole (c .before .before .before .before .before .before .before .before .before .before .before .args .counts .now) (omega arith) (omega arith) (omega arith) (c .before .before .before .before .before .before .before .before .put-tally .ensures) (c .before .before .before .before .before .loop .inv .1) (c .before .before .put-byte .ensures)
+returns c =
+    let c₁ = c .before .before .before .before .before in
+    let c₂ = c₁ .before .before .before in
+    let c₃ = c₂ .before .before .before in
+    counts-whole (c₃ .args .counts .now) (omega arith) (omega arith) (omega arith) (c₂ .put-tally .ensures) (c₁ .loop .inv .1) (c .before .before .put-byte .ensures)
 
 pub put-tally-line-spec : {M : Type 1} → statement M
 put-tally-line-spec =

@@ -50,7 +50,11 @@ same-length-2 : tie.Need-same-length-2
 same-length-2 c = search needs
 
 returns-2 : tie.Need-returns-2
-returns-2 c = accepted-by (c .before .before .before .before .before .before .before .before .before .before .before .args .input .now) (c .before .before .before .before .before .before .before .enum-told .given .1) (c .before .before .before .before .before .before .job-end .ensures .0) (c .before .before .list-accepted .ensures)
+returns-2 c =
+    let c₁ = c .before .before .before .before .before .before in
+    let c₂ = c₁ .before in
+    let c₃ = c₂ .before .before .before .before in
+    accepted-by (c₃ .args .input .now) (c₂ .enum-told .given .1) (c₁ .job-end .ensures .0) (c .before .before .list-accepted .ensures)
 
 pub list-checked-spec : {M : Type 1} → statement M
 list-checked-spec =

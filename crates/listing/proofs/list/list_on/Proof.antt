@@ -32,8 +32,9 @@ same-length-2 c = search needs
 
 returns : tie.Need-returns
 returns c =
-    let a = c .before .before .before .before .before .before .before .before .before .before .before .before .before .before in
-    listed-by (jobOf (a .args .job .now)) (a .args .named .now) (a .pre .1 .1 .1 .0) (c .before .before .before .before .before .before .before .before .play .ensures .0) (c .before .before .before .before .before .before .before .before .play .ensures .1) (c .before .before .put-text .ensures)
+    let c₁ = c .before .before .before .before .before .before .before .before in
+    let c₂ = c₁ .before .before .before .before .before .before in
+    listed-by (jobOf (c₂ .args .job .now)) (c₂ .args .named .now) (c₂ .pre .1 .1 .1 .0) (c₁ .play .ensures .0) (c₁ .play .ensures .1) (c .before .before .put-text .ensures)
 
 pub list-on-spec : {M : Type 1} → statement M
 list-on-spec =
