@@ -2,10 +2,13 @@
 # make c        builds the library, and runs the example in C on it
 # make test     all tests, then the proofs from nothing: what the gate does
 # make bench    plain evaluation and runs beside other evaluators, as ratios
+SHELL = /bin/bash
+.SHELLFLAGS = -o pipefail -c
 .PHONY: run program c library test bench clean
 
+# shown: a line for each crate that is proved
 program:
-	rt check verdicts
+	rt check verdicts | grep '^rt:'
 
 run: program
 	target/bin/verdicts < examples/fields/field.field

@@ -25,10 +25,12 @@ same-length-2 c = search needs
 returns : tie.Need-returns
 unfolding runAnswer
 returns c =
-    let a = c .before .before .before .before .before .before .before .before .before .before .before .before .before .before .before .args in
-    let e = c .before .before .before .before .before .before .before .before .before .run .ensures .0 in (
+    let c₁ = c .before .before .before .before .before .before .before .before .before in
+    let c₂ = c₁ .before .before .before .before .before .before in
+    let a = c₂ .args in
+    let e = c₁ .run .ensures .0 in (
       c .of-check .ensures ∙ ap (λ (r : RunAnswer). ofCheck (r .check)) e,
-      (c .before .before .before .before .before .before .before .before .before .run .ensures .1, c .before .before .before .copy-counts .ensures ∙ ap (λ (r : RunAnswer). copied (r .tally) (a .tally .now)) e),
+      (c₁ .run .ensures .1, c .before .before .before .copy-counts .ensures ∙ ap (λ (r : RunAnswer). copied (r .tally) (a .tally .now)) e),
     )
 
 pub table-run-spec : {M : Type 1} → statement M

@@ -60,8 +60,11 @@ check-offsets-requires c κs = length-least _ (length-ok (c .before .before .bef
 returns-4 : tie.Need-returns-4
 unfolding checkHeader
 returns-4 c =
-    go _ _ refl (length-ok (c .before .before .before .before .before .before .before))
-    (go _ _ (c .before .before .before .before .enum-told4 .given .1) (c .before .before .before .before .before .before .check-total .ensures) (go _ _ (c .before .enum-told6 .given .1) (c .before .before .before .check-counts .ensures) (c .check-offsets .ensures)))
+    let c₁ = c .before .before .before .before in
+    let c₂ = c₁ .before .before in
+    let c₃ = c₂ .before in
+    go _ _ refl (length-ok c₃)
+    (go _ _ (c₁ .enum-told4 .given .1) (c₂ .check-total .ensures) (go _ _ (c .before .enum-told6 .given .1) (c .before .before .before .check-counts .ensures) (c .check-offsets .ensures)))
 
 pub check-header-spec : {M : Type 1} → statement M
 check-header-spec =

@@ -43,8 +43,11 @@ enum-told-5 c = search needs
 returns-3 : tie.Need-returns-3
 unfolding checkParts
 returns-3 c =
-    go _ _ (c .before .before .before .before .before .before .enum-told2 .given .1) (c .before .before .before .before .before .before .before .before .check-heads .ensures)
-    (go _ _ (c .before .before .before .enum-told4 .given .1) (c .before .before .before .before .before .check-bodies .ensures) (halt _ _ (c .enum-told5 .given .1) (c .before .before .check-literals .ensures)))
+    let c₁ = c .before .before .before .before .before in
+    let c₂ = c₁ .before in
+    let c₃ = c₂ .before .before in
+    go _ _ (c₂ .enum-told2 .given .1) (c₃ .check-heads .ensures)
+    (go _ _ (c .before .before .before .enum-told4 .given .1) (c₁ .check-bodies .ensures) (halt _ _ (c .enum-told5 .given .1) (c .before .before .check-literals .ensures)))
 
 enum-told-6 : tie.Need-enum-told-6
 enum-told-6 c = search needs
@@ -55,8 +58,12 @@ check-questions-requires c κs = search needs
 returns-4 : tie.Need-returns-4
 unfolding checkParts
 returns-4 c =
-    go _ _ (c .before .before .before .before .before .before .before .enum-told2 .given .1) (c .before .before .before .before .before .before .before .before .before .check-heads .ensures)
-    (go _ _ (c .before .before .before .before .enum-told4 .given .1) (c .before .before .before .before .before .before .check-bodies .ensures)
+    let c₁ = c .before .before .before .before in
+    let c₂ = c₁ .before .before in
+    let c₃ = c₂ .before in
+    let c₄ = c₃ .before .before in
+    go _ _ (c₃ .enum-told2 .given .1) (c₄ .check-heads .ensures)
+    (go _ _ (c₁ .enum-told4 .given .1) (c₂ .check-bodies .ensures)
     (go _ _ (c .before .enum-told6 .given .1) (c .before .before .before .check-literals .ensures) (c .check-questions .ensures)))
 
 pub check-parts-spec : {M : Type 1} → statement M

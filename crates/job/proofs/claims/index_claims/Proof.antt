@@ -51,16 +51,19 @@ loop-less c = omega (arith, there (c .before))
 
 loop-again : tie.Need-loop-again Inv-loop μ-loop
 loop-again c =
-    let s = c .before .before .before .before .before .before .before .before .before .args .job .now in
-    let l = c .before .before .before .before .loop in
+    let c₁ = c .before .before .before .before in
+    let c₂ = c₁ .before .before in
+    let c₃ = c₂ .before .before .before in
+    let s = c₃ .args .job .now in
+    let l = c₁ .loop in
     let h = there (c .before) in
     let next = bodyStart-next s (l .i) in (
       l .inv .0,
       omega arith,
       l .inv .2,
       omega arith,
-      omega (arith, body-within s (l .i) (rules s) h, c .before .before .before .before .before .before .before .before .before .pre .bodies),
-      below-more _ _ (l .inv .5) (rule-below s (l .claim) (l .i) (c .before .before .before .before .before .before .rule-count .ensures .value) (c .before .before .head-below .ensures) (c .before .if1 .taken)),
+      omega (arith, body-within s (l .i) (rules s) h, c₃ .pre .bodies),
+      below-more _ _ (l .inv .5) (rule-below s (l .claim) (l .i) (c₂ .rule-count .ensures .value) (c .before .before .head-below .ensures) (c .before .if1 .taken)),
       l .inv .6,
     )
 
@@ -81,16 +84,18 @@ loop-less-2 c = omega arith
 
 loop-again-2 : tie.Need-loop-again-2 Inv-loop μ-loop
 loop-again-2 c =
-    let s = c .before .before .before .before .before .before .before .before .args .job .now in
+    let c₁ = c .before .before .before .before .before in
+    let c₂ = c₁ .before .before .before in
+    let s = c₂ .args .job .now in
     let l = c .before .before .before .loop in
-    let past = rule-past s (l .claim) (l .i) (c .before .before .before .before .before .rule-count .ensures .value) (c .before .head-below .ensures) (c .if1 .left) in (
+    let past = rule-past s (l .claim) (l .i) (c₁ .rule-count .ensures .value) (c .before .head-below .ensures) (c .if1 .left) in (
       simp length-set (l .inv .0),
       l .inv .1,
       omega arith,
       l .inv .3,
       l .inv .4,
       λ j b. omega (arith, l .inv .5 j b),
-      index-more s (l .index) (l .claim) (l .passed) (omega arith) (l .inv .3 ∙ sym (starts-here s (rules s) (c .before .before .before .before .before .before .before .before .pre .rise) (l .claim) (l .i) (l .inv .1) (l .inv .5) past)) (l .inv .6),
+      index-more s (l .index) (l .claim) (l .passed) (omega arith) (l .inv .3 ∙ sym (starts-here s (rules s) (c₂ .pre .rise) (l .claim) (l .i) (l .inv .1) (l .inv .5) past)) (l .inv .6),
     )
 
 returns : tie.Need-returns Inv-loop μ-loop

@@ -48,8 +48,10 @@ loop-less c =
 
 loop-again : tie.Need-loop-again Inv-loop μ-loop
 loop-again c =
-    let start = c .before .before .before .before .before .before .before .before .before .before .pre in
-    let l = c .before .before .before .before .before .loop in (
+    let c₁ = c .before .before .before .before .before in
+    let c₂ = c₁ .before .before .before .before .before in
+    let start = c₂ .pre in
+    let l = c₁ .loop in (
       turn-long _ _ _ (listed _ _ (start .1 .0 .0)) _ _ _ _ (l .inv .0) (l .inv .1) (c .before .before .before .pass-all .ensures),
       turn-sound _ _ _ (listed _ _ (start .1 .0 .0)) _ _ _ _ (l .inv .0) (l .inv .1) (c .before .before .before .pass-all .ensures),
     )

@@ -41,18 +41,25 @@ body-length-at-requires c κs =
 
 try-rule-requires : tie.Need-try-rule-requires Inv-loop μ-loop
 try-rule-requires c κs =
-    let good = c .before .before .before .before .before .before .before .before .before .before .pre in
-    let l = c .before .before .before .before .loop in
-    let m = c .before .before .before .before .before .rule-count .ensures .value in
+    let c₁ = c .before .before .before .before in
+    let c₂ = c₁ .before in
+    let c₃ = c₂ .before .before .before .before .before in
+    let good = c₃ .pre in
+    let l = c₁ .loop in
+    let m = c₂ .rule-count .ensures .value in
     let n = c .before .body-length-at .ensures .value in
     body-room _ good (l .i) (omega (arith, m)) _ _ _ m (l .inv .1) n
 
 add-k : tie.Need-add-k Inv-loop μ-loop
 add-k c =
-    let good = c .before .before .before .before .before .before .before .before .before .before .before .before .before .before .pre in
-    let l = c .before .before .before .before .before .before .before .before .loop in
-    let m = c .before .before .before .before .before .before .before .before .before .rule-count .ensures .value in
-    let n = c .before .before .before .before .before .body-length-at .ensures .value in
+    let c₁ = c .before .before .before .before .before in
+    let c₂ = c₁ .before .before .before in
+    let c₃ = c₂ .before in
+    let c₄ = c₃ .before .before .before .before .before in
+    let good = c₄ .pre in
+    let l = c₂ .loop in
+    let m = c₃ .rule-count .ensures .value in
+    let n = c₁ .body-length-at .ensures .value in
     omega (arith, body-room _ good (l .i) (omega (arith, m)) _ _ _ m (l .inv .1) n)
 
 add-i : tie.Need-add-i Inv-loop μ-loop
@@ -63,10 +70,14 @@ loop-less c = omega arith
 
 loop-again : tie.Need-loop-again Inv-loop μ-loop
 loop-again c =
-    let l = c .before .before .before .before .before .before .before .before .loop in
-    let m = c .before .before .before .before .before .before .before .before .before .rule-count .ensures .value in
-    let head = c .before .before .before .before .before .before .head-at .ensures .value in
-    let n = c .before .before .before .before .before .body-length-at .ensures .value in
+    let c₁ = c .before .before .before .before .before in
+    let c₂ = c₁ .before in
+    let c₃ = c₂ .before .before in
+    let c₄ = c₃ .before in
+    let l = c₃ .loop in
+    let m = c₄ .rule-count .ensures .value in
+    let head = c₂ .head-at .ensures .value in
+    let n = c₁ .body-length-at .ensures .value in
     let tried = c .before .before .before .try-rule .ensures in (
       omega arith,
       ap₂ _+_ (l .inv .1) n ∙ sym (bodyStart-next _ _),

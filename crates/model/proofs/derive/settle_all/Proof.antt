@@ -35,8 +35,10 @@ loop-less c = omega arith
 
 loop-again : tie.Need-loop-again Inv-loop μ-loop
 loop-again c =
-    let l = c .before .before .before .before .before .before .before .loop in
-    let g = c .before .before .before .before .before .before .before .before .before .before .before .args .known .now in
+    let c₁ = c .before .before .before .before .before .before .before in
+    let c₂ = c₁ .before .before .before .before in
+    let l = c₁ .loop in
+    let g = c₂ .args .known .now in
     let settled = c .before .before .before .settle .ensures in
     let flag = flag-on (l .changed) _ _ (c .if1 .taken) refl in
     (omega arith, partway-more _ _ _ _ _ _ (l .inv .1) _ _ _ _ _ (below-one g (l .i) (omega arith)) settled flag)
@@ -46,8 +48,10 @@ loop-less-2 c = omega arith
 
 loop-again-2 : tie.Need-loop-again-2 Inv-loop μ-loop
 loop-again-2 c =
-    let l = c .before .before .before .before .before .before .before .loop in
-    let g = c .before .before .before .before .before .before .before .before .before .before .before .args .known .now in
+    let c₁ = c .before .before .before .before .before .before .before in
+    let c₂ = c₁ .before .before .before .before in
+    let l = c₁ .loop in
+    let g = c₂ .args .known .now in
     let settled = c .before .before .before .settle .ensures in
     let flag = flag-off (l .changed) _ _ (c .if1 .left) refl in
     (omega arith, partway-more _ _ _ _ _ _ (l .inv .1) _ _ _ _ _ (below-one g (l .i) (omega arith)) settled flag)

@@ -42,24 +42,30 @@ round-requires c κs =
 
 same-length : tie.Need-same-length Inv-loop μ-loop
 same-length c =
-    let start = c .before .before .before .before .before .before .before .before .before .before .before .before .before .before .before .before .before in
-    let l = c .before .before .before .before .before .before .before .before .loop in
-    let r = c .before .before .before .before .before .round in
-    r .kept .1 .1 .0 ∙ l .inv .0 ∙ sym (start .pre .1 .1)
+    let c₁ = c .before .before .before .before .before in
+    let c₂ = c₁ .before .before .before in
+    let c₃ = c₂ .before .before .before .before .before .before .before .before .before in
+    let l = c₂ .loop in
+    let r = c₁ .round in
+    r .kept .1 .1 .0 ∙ l .inv .0 ∙ sym (c₃ .pre .1 .1)
 
 same-length-2 : tie.Need-same-length-2 Inv-loop μ-loop
 same-length-2 c =
-    let start = c .before .before .before .before .before .before .before .before .before .before .before .before .before .before .before .before .before in
-    let l = c .before .before .before .before .before .before .before .before .loop in
-    let r = c .before .before .before .before .before .round in
-    r .kept .1 .1 .1 .0 ∙ l .inv .1 ∙ sym (start .pre .1 .2)
+    let c₁ = c .before .before .before .before .before in
+    let c₂ = c₁ .before .before .before in
+    let c₃ = c₂ .before .before .before .before .before .before .before .before .before in
+    let l = c₂ .loop in
+    let r = c₁ .round in
+    r .kept .1 .1 .1 .0 ∙ l .inv .1 ∙ sym (c₃ .pre .1 .2)
 
 returns : tie.Need-returns Inv-loop μ-loop
 returns c =
-    let start = c .before .before .before .before .before .before .before .before .before .before .before .before .before .before .before .before .before in
-    let l = c .before .before .before .before .before .before .before .before .loop in
-    let r = c .before .before .before .before .before .round in
-    rising-stops _ _ (l .inv .2) _ _ (r .ensures .0) _ _ _ (claims-given _ (start .args .known .now)) (l .inv .3) (r .ensures .1)
+    let c₁ = c .before .before .before .before .before in
+    let c₂ = c₁ .before .before .before in
+    let c₃ = c₂ .before .before .before .before .before .before .before .before .before in
+    let l = c₂ .loop in
+    let r = c₁ .round in
+    rising-stops _ _ (l .inv .2) _ _ (r .ensures .0) _ _ _ (claims-given _ (c₃ .args .known .now)) (l .inv .3) (r .ensures .1)
     (c .if1 .taken)
 
 loop-less : tie.Need-loop-less Inv-loop μ-loop
@@ -67,9 +73,11 @@ loop-less c = rising-less _ _ _ _ (c .before .before .before .before .before .ro
 
 loop-again : tie.Need-loop-again Inv-loop μ-loop
 loop-again c =
-    let start = c .before .before .before .before .before .before .before .before .before .before .before .before .before .before .before .before .before in
-    let l = c .before .before .before .before .before .before .before .before .loop in
-    let r = c .before .before .before .before .before .round in
+    let c₁ = c .before .before .before .before .before in
+    let c₂ = c₁ .before .before .before in
+    let c₃ = c₂ .before .before .before .before .before .before .before .before .before in
+    let l = c₂ .loop in
+    let r = c₁ .round in
     (r .kept .1 .1 .0 ∙ l .inv .0, r .kept .1 .1 .1 .0 ∙ l .inv .1, rising-next _ _ (l .inv .2) _ _ (r .ensures .0), r .ensures .1)
 
 pub alternate-spec : {M : Type 1} → statement M

@@ -23,9 +23,10 @@ same-length-3 c = search needs
 
 returns : tie.Need-returns
 returns c =
-    let start = c .before .before .before .before .before .before .before .before .before .before .before .before .before .before .before .before .before .before in
-    let a = c .before .before .before .before .before .before .before .before .before .before .alternate in
-    written-verdicts _ _ _ _ _ _ _ (claims-given _ (start .args .known .now)) (a .kept .1 .1 .0 ∙ start .pre .1 .0 .1)
+    let c₁ = c .before .before .before .before .before .before .before .before .before .before in
+    let c₂ = c₁ .before .before .before .before .before .before .before .before in
+    let a = c₁ .alternate in
+    written-verdicts _ _ _ _ _ _ _ (claims-given _ (c₂ .args .known .now)) (a .kept .1 .1 .0 ∙ c₂ .pre .1 .0 .1)
     (a .ensures .0) (a .ensures .1) (c .before .before .write .ensures)
 
 pub evaluate-in-spec : {M : Type 1} → statement M

@@ -19,8 +19,10 @@ close-requires c κs =
 
 close-requires-2 : tie.Need-close-requires-2
 close-requires-2 c κs =
-    let start = c .before .before .before .before .before .before .before .before .before .before .before .before .before .before .before .before .pre in
-    (start .0, ((start .1 .0 .0, start .1 .0 .1), rising-again _ _ (start .1 .1) _ (c .before .before .before .before .close .ensures)))
+    let c₁ = c .before .before .before .before in
+    let c₂ = c₁ .before .before .before .before .before .before .before .before .before .before .before .before in
+    let start = c₂ .pre in
+    (start .0, ((start .1 .0 .0, start .1 .0 .1), rising-again _ _ (start .1 .1) _ (c₁ .close .ensures)))
 
 size-requires : tie.Need-size-requires
 size-requires c κs = search needs
@@ -33,9 +35,12 @@ same-length-2 c = search needs
 
 returns : tie.Need-returns
 returns c =
-    let start = c .before .before .before .before .before .before .before .before .before .before .before .before .before .before .before .before .before .before .before .before .before .pre in
-    let u = c .before .before .before .before .before .before .before .before .before .close in
-    let k = c .before .before .before .before .close2 in
+    let c₁ = c .before .before .before .before in
+    let c₂ = c₁ .before .before .before .before .before in
+    let c₃ = c₂ .before .before .before .before .before .before .before .before .before .before .before .before in
+    let start = c₃ .pre in
+    let u = c₂ .close in
+    let k = c₁ .close2 in
     let long = k .kept .1 .1 .1 .0 ∙ start .1 .0 .1 in
     (record { nextU = u .ensures; nextK = k .ensures }, c .size .ensures ∙ ap (count _) long)
 

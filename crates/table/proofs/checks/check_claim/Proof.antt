@@ -52,12 +52,16 @@ bad-word-requires-2 c κs = search needs
 returns-2 : tie.Need-returns-2
 unfolding checkClaim
 returns-2 c =
-    let a = c .before .before .before .before .before .before .before .before .before .args in
+    let c₁ = c .before .before .before .before in
+    let c₂ = c₁ .before in
+    let c₃ = c₂ .before in
+    let c₄ = c₃ .before .before .before in
+    let a = c₄ .args in
     let j = jobOf (a .job .now) in
     let t = a .table .now in
-    let m = c .before .before .before .before .before .before .mark-at .ensures .value in
+    let m = c₃ .mark-at .ensures .value in
     c .bad-word2 .ensures
-    ∙ pass _ _ _ _ (mark-test j t (a .c) m (c .before .before .before .before .before .is-bad-mark .ensures) (c .before .before .before .before .if1 .left))
+    ∙ pass _ _ _ _ (mark-test j t (a .c) m (c₂ .is-bad-mark .ensures) (c₁ .if1 .left))
     (stop _ _ _ _ (cursor-bad j t (a .c) m (c .before .before .before .most-passed .ensures) (c .before .before .cursor-at .ensures .value) (c .before .if2 .taken)))
 
 number-at-requires : tie.Need-number-at-requires
@@ -79,24 +83,37 @@ bad-word-requires-3 c κs = search needs
 returns-3 : tie.Need-returns-3
 unfolding checkClaim
 returns-3 c =
-    let a = c .before .before .before .before .before .before .before .before .before .before .before .before .args in
+    let c₁ = c .before .before .before .before in
+    let c₂ = c₁ .before in
+    let c₃ = c₂ .before in
+    let c₄ = c₃ .before in
+    let c₅ = c₄ .before in
+    let c₆ = c₅ .before in
+    let c₇ = c₆ .before .before .before in
+    let a = c₇ .args in
     let j = jobOf (a .job .now) in
     let t = a .table .now in
-    let m = c .before .before .before .before .before .before .before .before .before .mark-at .ensures .value in
+    let m = c₆ .mark-at .ensures .value in
     c .bad-word3 .ensures
-    ∙ pass _ _ _ _ (mark-test j t (a .c) m (c .before .before .before .before .before .before .before .before .is-bad-mark .ensures) (c .before .before .before .before .before .before .before .if1 .left))
-    (pass _ _ _ _ (cursor-good j t (a .c) m (c .before .before .before .before .before .before .most-passed .ensures) (c .before .before .before .before .before .cursor-at .ensures .value) (c .before .before .before .before .if2 .left))
+    ∙ pass _ _ _ _ (mark-test j t (a .c) m (c₅ .is-bad-mark .ensures) (c₄ .if1 .left))
+    (pass _ _ _ _ (cursor-good j t (a .c) m (c₃ .most-passed .ensures) (c₂ .cursor-at .ensures .value) (c₁ .if2 .left))
     (stop _ _ _ _ (number-test j t (a .c) m (c .before .before .before .number-at .ensures .value) (c .before .before .is-bad-number .ensures) (c .before .if3 .taken))))
 
 returns-4 : tie.Need-returns-4
 unfolding checkClaim
 returns-4 c =
-    let a = c .before .before .before .before .before .before .before .before .before .before .before .args in
+    let c₁ = c .before .before .before .before in
+    let c₂ = c₁ .before in
+    let c₃ = c₂ .before in
+    let c₄ = c₃ .before in
+    let c₅ = c₄ .before in
+    let c₆ = c₅ .before .before .before in
+    let a = c₆ .args in
     let j = jobOf (a .job .now) in
     let t = a .table .now in
-    let m = c .before .before .before .before .before .before .before .before .mark-at .ensures .value in
-    pass _ _ _ _ (mark-test j t (a .c) m (c .before .before .before .before .before .before .before .is-bad-mark .ensures) (c .before .before .before .before .before .before .if1 .left))
-    (pass _ _ _ _ (cursor-good j t (a .c) m (c .before .before .before .before .before .most-passed .ensures) (c .before .before .before .before .cursor-at .ensures .value) (c .before .before .before .if2 .left))
+    let m = c₅ .mark-at .ensures .value in
+    pass _ _ _ _ (mark-test j t (a .c) m (c₄ .is-bad-mark .ensures) (c₃ .if1 .left))
+    (pass _ _ _ _ (cursor-good j t (a .c) m (c₂ .most-passed .ensures) (c₁ .cursor-at .ensures .value) (c .before .before .before .if2 .left))
     (pass _ _ _ _ (number-test j t (a .c) m (c .before .before .number-at .ensures .value) (c .before .is-bad-number .ensures) (c .if3 .left)) refl))
 
 pub check-claim-spec : {M : Type 1} → statement M

@@ -40,8 +40,11 @@ enum-told-5 c = search needs
 returns-3 : tie.Need-returns-3
 unfolding checkWords
 returns-3 c =
-    go _ _ (c .before .before .before .before .before .before .enum-told2 .given .1) (c .before .before .before .before .before .before .before .before .check-header .ensures)
-    (go _ _ (c .before .before .before .enum-told4 .given .1) (c .before .before .before .before .before .check-opened .ensures) (halt _ _ (c .enum-told5 .given .1) (c .before .before .check-claims .ensures)))
+    let c₁ = c .before .before .before .before .before in
+    let c₂ = c₁ .before in
+    let c₃ = c₂ .before .before in
+    go _ _ (c₂ .enum-told2 .given .1) (c₃ .check-header .ensures)
+    (go _ _ (c .before .before .before .enum-told4 .given .1) (c₁ .check-opened .ensures) (halt _ _ (c .enum-told5 .given .1) (c .before .before .check-claims .ensures)))
 
 enum-told-6 : tie.Need-enum-told-6
 enum-told-6 c = search needs
@@ -55,9 +58,14 @@ enum-told-7 c = search needs
 returns-4 : tie.Need-returns-4
 unfolding checkWords
 returns-4 c =
-    go _ _ (c .before .before .before .before .before .before .before .before .before .enum-told2 .given .1) (c .before .before .before .before .before .before .before .before .before .before .before .check-header .ensures)
-    (go _ _ (c .before .before .before .before .before .before .enum-told4 .given .1) (c .before .before .before .before .before .before .before .before .check-opened .ensures)
-    (go _ _ (c .before .before .before .enum-told6 .given .1) (c .before .before .before .before .before .check-claims .ensures) (halt _ _ (c .enum-told7 .given .1) (c .before .before .check-workers .ensures))))
+    let c₁ = c .before .before .before .before .before in
+    let c₂ = c₁ .before in
+    let c₃ = c₂ .before .before in
+    let c₄ = c₃ .before in
+    let c₅ = c₄ .before .before in
+    go _ _ (c₄ .enum-told2 .given .1) (c₅ .check-header .ensures)
+    (go _ _ (c₂ .enum-told4 .given .1) (c₃ .check-opened .ensures)
+    (go _ _ (c .before .before .before .enum-told6 .given .1) (c₁ .check-claims .ensures) (halt _ _ (c .enum-told7 .given .1) (c .before .before .check-workers .ensures))))
 
 enum-told-8 : tie.Need-enum-told-8
 enum-told-8 c = search needs
@@ -68,9 +76,15 @@ check-answers-requires c κs = search needs
 returns-5 : tie.Need-returns-5
 unfolding checkWords
 returns-5 c =
-    go _ _ (c .before .before .before .before .before .before .before .before .before .before .enum-told2 .given .1) (c .before .before .before .before .before .before .before .before .before .before .before .before .check-header .ensures)
-    (go _ _ (c .before .before .before .before .before .before .before .enum-told4 .given .1) (c .before .before .before .before .before .before .before .before .before .check-opened .ensures)
-    (go _ _ (c .before .before .before .before .enum-told6 .given .1) (c .before .before .before .before .before .before .check-claims .ensures) (go _ _ (c .before .enum-told8 .given .1) (c .before .before .before .check-workers .ensures) (c .check-answers .ensures))))
+    let c₁ = c .before .before .before .before in
+    let c₂ = c₁ .before .before in
+    let c₃ = c₂ .before in
+    let c₄ = c₃ .before .before in
+    let c₅ = c₄ .before in
+    let c₆ = c₅ .before .before in
+    go _ _ (c₅ .enum-told2 .given .1) (c₆ .check-header .ensures)
+    (go _ _ (c₃ .enum-told4 .given .1) (c₄ .check-opened .ensures)
+    (go _ _ (c₁ .enum-told6 .given .1) (c₂ .check-claims .ensures) (go _ _ (c .before .enum-told8 .given .1) (c .before .before .before .check-workers .ensures) (c .check-answers .ensures))))
 
 pub check-words-spec : {M : Type 1} → statement M
 check-words-spec =

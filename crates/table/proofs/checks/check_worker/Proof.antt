@@ -72,20 +72,26 @@ bad-word-requires-2 c κs = search needs
 returns-2 : tie.Need-returns-2
 unfolding checkWorker jobOf
 returns-2 c =
-    let b = c .before .before .before .before .before .before .before .before .before .before in
-    let t = b .args .table .now in
-    let n = c .before .before .before .wide .ensures .value ∙ b .pre .1 .0 (b .args .w) (omega arith) in
+    let c₁ = c .before .before .before .before .before in
+    let c₂ = c₁ .before in
+    let c₃ = c₂ .before in
+    let c₄ = c₃ .before .before .before in
+    let t = c₄ .args .table .now in
+    let n = c .before .before .before .wide .ensures .value ∙ c₄ .pre .1 .0 (c₄ .args .w) (omega arith) in
     placed (c .bad-word2 .ensures) (omega arith)
-    ∙ pass _ _ _ _ (word-good t (omega arith) (c .before .before .before .before .before .before .awaited-at .ensures .value) (c .before .before .before .before .before .before .before .claim-count .ensures .value) (c .before .before .before .before .before .if1 .left))
+    ∙ pass _ _ _ _ (word-good t (omega arith) (c₂ .awaited-at .ensures .value) (c₃ .claim-count .ensures .value) (c₁ .if1 .left))
     (stop _ _ _ _ (word-bad t (omega arith) (c .before .before .answered-at .ensures .value) n (c .before .if2 .taken)))
 
 returns-3 : tie.Need-returns-3
 unfolding checkWorker jobOf
 returns-3 c =
-    let b = c .before .before .before .before .before .before .before .before .before in
-    let t = b .args .table .now in
-    let n = c .before .before .wide .ensures .value ∙ b .pre .1 .0 (b .args .w) (omega arith) in
-    pass _ _ _ _ (word-good t (omega arith) (c .before .before .before .before .before .awaited-at .ensures .value) (c .before .before .before .before .before .before .claim-count .ensures .value) (c .before .before .before .before .if1 .left))
+    let c₁ = c .before .before .before .before in
+    let c₂ = c₁ .before in
+    let c₃ = c₂ .before in
+    let c₄ = c₃ .before .before .before in
+    let t = c₄ .args .table .now in
+    let n = c .before .before .wide .ensures .value ∙ c₄ .pre .1 .0 (c₄ .args .w) (omega arith) in
+    pass _ _ _ _ (word-good t (omega arith) (c₂ .awaited-at .ensures .value) (c₃ .claim-count .ensures .value) (c₁ .if1 .left))
     (pass _ _ _ _ (word-good t (omega arith) (c .before .answered-at .ensures .value) n (c .if2 .left)) refl)
 
 pub check-worker-spec : {M : Type 1} → statement M

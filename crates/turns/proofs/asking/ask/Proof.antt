@@ -113,34 +113,47 @@ same-length c = search needs
 
 returns : tie.Need-returns
 returns c =
-    let a = c .before .before .before .before .before .before .before .before .before .before .before .before .before .before .before .before .before .before .args in
+    let c₁ = c .before .before .before .before .before .before in
+    let c₂ = c₁ .before in
+    let c₃ = c₂ .before .before in
+    let c₄ = c₃ .before in
+    let c₅ = c₄ .before .before in
+    let c₆ = c₅ .before .before .before in
+    let c₇ = c₆ .before .before .before in
+    let a = c₇ .args in
     let s = a .job .now in
     let t = a .table .now in
-    let p = c .before .before .before .before .before .before .before .before .before .before .before .before .before .before .before .before .before .before .pre in
-    let q = c .before .before .before .before .before .before .before .before .before .before .before .before .question-at .result in
-    let one = c .before .before .before .before .before .before .store-word .ensures in
-    made-from (c .before .before .store-word2 .ensures ∙ ap (λ (x : List ℕ). set x (8 + 3 * c .before .before .before .before .before .before .before .before .before .before .before .before .before .before .before .claim-count .result + 2 * a .w + 1) (a .n + 1)) one)
-    (puts-answered s t (a .w) (a .n) (a .k) q (c .before .before .before .before .before .before .before .before .before .before .mark-at .result) (p .0 .0) (p .1 .0) (p .1 .1) (p .1 .2) (asked (c .before .before .before .before .before .before .before .before .before .before .before .before)) (c .before .before .before .before .before .before .before .before .before .before .mark-at .ensures .value) (c .before .before .before .before .before .before .before .before .before .if1 .taken) (c .before .before .before .before .before .before .before .before .before .before .before .before .before .before .before .claim-count .ensures .value) (c .before .before .before .before .before .before .before .worker-count .ensures .value))
+    let p = c₇ .pre in
+    let q = c₅ .question-at .result in
+    let one = c₁ .store-word .ensures in
+    made-from (c .before .before .store-word2 .ensures ∙ ap (λ (x : List ℕ). set x (8 + 3 * c₆ .claim-count .result + 2 * a .w + 1) (a .n + 1)) one)
+    (puts-answered s t (a .w) (a .n) (a .k) q (c₄ .mark-at .result) (p .0 .0) (p .1 .0) (p .1 .1) (p .1 .2) (asked c₅) (c₄ .mark-at .ensures .value) (c₃ .if1 .taken) (c₆ .claim-count .ensures .value) (c₂ .worker-count .ensures .value))
 
 open-claim-requires : tie.Need-open-claim-requires
 open-claim-requires c κs =
-    let a = c .before .before .before .before .before .before .before .before .before .before .before .args in
+    let c₁ = c .before .before .before .before .before in
+    let c₂ = c₁ .before .before .before .before .before .before in
+    let a = c₂ .args in
     let s = a .job .now in
     let t = a .table .now in
-    let r = sure (c .before .before .before .before .before) in
-    (omega arith, omega arith, omega arith, fresh-left s t (c .before .before .before .before .before .before .before .before .before .before .before .pre .0 .0) (c .before .before .before .before .before .before .before .before .before .before .before .pre .0 .1) (c .before .before .before .before .before .question-at .result .claim) (r .low) (sym (c .before .before .before .mark-at .ensures .value) ∙ c .before .if2 .taken))
+    let r = sure c₁ in
+    (omega arith, omega arith, omega arith, fresh-left s t (c₂ .pre .0 .0) (c₂ .pre .0 .1) (c₁ .question-at .result .claim) (r .low) (sym (c .before .before .before .mark-at .ensures .value) ∙ c .before .if2 .taken))
 
 same-length-2 : tie.Need-same-length-2
 same-length-2 c = search needs
 
 returns-2 : tie.Need-returns-2
 returns-2 c =
-    let a = c .before .before .before .before .before .before .before .before .before .before .before .before .before .before .args in
+    let c₁ = c .before .before .before .before in
+    let c₂ = c₁ .before .before in
+    let c₃ = c₂ .before .before in
+    let c₄ = c₃ .before .before .before .before .before .before in
+    let a = c₄ .args in
     let s = a .job .now in
     let t = a .table .now in
-    let p = c .before .before .before .before .before .before .before .before .before .before .before .before .before .before .pre in
-    let q = c .before .before .before .before .before .before .before .before .question-at .result in
-    made-from (c .before .before .open-claim .ensures) (puts-opened s t (a .w) (a .n) (a .k) q (c .before .before .before .before .before .before .mark-at .result) (p .0 .0) (p .1 .0) (p .1 .1) (p .1 .2) (asked (c .before .before .before .before .before .before .before .before)) (c .before .before .before .before .before .before .mark-at .ensures .value) (c .before .before .before .before .if2 .taken))
+    let p = c₄ .pre in
+    let q = c₃ .question-at .result in
+    made-from (c .before .before .open-claim .ensures) (puts-opened s t (a .w) (a .n) (a .k) q (c₂ .mark-at .result) (p .0 .0) (p .1 .0) (p .1 .1) (p .1 .2) (asked c₃) (c₂ .mark-at .ensures .value) (c₁ .if2 .taken))
 
 mul-store-word-5 : tie.Need-mul-store-word-5
 mul-store-word-5 c = search needs
@@ -165,12 +178,18 @@ same-length-3 c = search needs
 
 returns-3 : tie.Need-returns-3
 returns-3 c =
-    let a = c .before .before .before .before .before .before .before .before .before .before .before .before .before .before .args in
+    let c₁ = c .before .before .before .before in
+    let c₂ = c₁ .before in
+    let c₃ = c₂ .before in
+    let c₄ = c₃ .before .before in
+    let c₅ = c₄ .before .before .before in
+    let c₆ = c₅ .before .before .before in
+    let a = c₆ .args in
     let s = a .job .now in
     let t = a .table .now in
-    let p = c .before .before .before .before .before .before .before .before .before .before .before .before .before .before .pre in
-    let q = c .before .before .before .before .before .before .before .before .question-at .result in
-    made-from (c .before .before .store-word3 .ensures) (puts-waits s t (a .w) (a .n) (a .k) q (c .before .before .before .before .before .before .mark-at .result) (p .0 .0) (p .1 .0) (p .1 .1) (p .1 .2) (asked (c .before .before .before .before .before .before .before .before)) (c .before .before .before .before .before .before .mark-at .ensures .value) (c .before .before .before .before .if2 .left) (c .before .before .before .before .before .if1 .left) (c .before .before .before .before .before .before .before .before .before .before .before .claim-count .ensures .value))
+    let p = c₆ .pre in
+    let q = c₄ .question-at .result in
+    made-from (c .before .before .store-word3 .ensures) (puts-waits s t (a .w) (a .n) (a .k) q (c₃ .mark-at .result) (p .0 .0) (p .1 .0) (p .1 .1) (p .1 .2) (asked c₄) (c₃ .mark-at .ensures .value) (c₁ .if2 .left) (c₂ .if1 .left) (c₅ .claim-count .ensures .value))
 
 pub ask-spec : {M : Type 1} → statement M
 ask-spec =

@@ -22,11 +22,15 @@ enum-known-next c = search needs
 
 ask-requires : tie.Need-ask-requires
 ask-requires c κs =
-    let s = c .before .before .before .before .before .before .before .before .before .before .args .job .now in
-    let t = c .before .before .before .before .before .before .before .before .before .before .args .table .now in
+    let c₁ = c .before .before .before .before in
+    let c₂ = c₁ .before in
+    let c₃ = c₂ .before .before in
+    let c₄ = c₃ .before .before .before in
+    let s = c₄ .args .job .now in
+    let t = c₄ .args .table .now in
     let e = c .before .before .next .given .1 in (
-      c .before .before .before .before .before .before .before .before .before .before .pre,
-      (answered-read s t (c .before .before .before .before .before .before .before .before .before .before .args .w) (c .before .before .before .before .before .before .before .claim-count .ensures .value) (c .before .before .before .before .before .answered-at .ensures .value), c .before .before .before .before .next-question .ensures .1 _ e, sym e ∙ c .before .before .before .before .next-question .ensures .0),
+      c₄ .pre,
+      (answered-read s t (c₄ .args .w) (c₃ .claim-count .ensures .value) (c₂ .answered-at .ensures .value), c₁ .next-question .ensures .1 _ e, sym e ∙ c₁ .next-question .ensures .0),
     )
 
 enum-told : tie.Need-enum-told
@@ -43,9 +47,11 @@ same-length-2 c = search needs
 
 returns-2 : tie.Need-returns-2
 returns-2 c =
-    let s = c .before .before .before .before .before .before .before .before .args .job .now in
-    let t = c .before .before .before .before .before .before .before .before .args .table .now in
-    puts-none (jobOf s) t (c .before .before .before .before .before .before .before .before .args .w) _ (answered-read s t (c .before .before .before .before .before .before .before .before .args .w) (c .before .before .before .before .before .claim-count .ensures .value) (c .before .before .before .answered-at .ensures .value)) (sym (c .enum-told .given .1) ∙ c .before .before .next-question .ensures .0)
+    let c₁ = c .before .before .before .before .before in
+    let c₂ = c₁ .before .before .before in
+    let s = c₂ .args .job .now in
+    let t = c₂ .args .table .now in
+    puts-none (jobOf s) t (c₂ .args .w) _ (answered-read s t (c₂ .args .w) (c₁ .claim-count .ensures .value) (c .before .before .before .answered-at .ensures .value)) (sym (c .enum-told .given .1) ∙ c .before .before .next-question .ensures .0)
 
 pub ask-turn-spec : {M : Type 1} → statement M
 ask-turn-spec =

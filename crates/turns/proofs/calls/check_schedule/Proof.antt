@@ -34,9 +34,11 @@ wide-requires c κs = omega arith
 returns : tie.Need-returns Inv-loop μ-loop
 unfolding checkSchedule
 returns c =
-    let ws = c .before .before .before .before .before .before .before .before .args .schedule .now in
-    let s = c .before .before .before .before .before .before .before .before .args .job .now in
-    let l = c .before .before .before .before .loop in
+    let c₁ = c .before .before .before .before in
+    let c₂ = c₁ .before .before .before .before in
+    let ws = c₂ .args .schedule .now in
+    let s = c₂ .args .job .now in
+    let l = c₁ .loop in
     scan-at _ _ (l .i) _ _ (omega arith) (l .inv .1) (notBelow-yes (getD ws (l .i) 0) (workers s) (omega arith))
 
 add-i : tie.Need-add-i Inv-loop μ-loop
@@ -47,9 +49,11 @@ loop-less c = omega arith
 
 loop-again : tie.Need-loop-again Inv-loop μ-loop
 loop-again c =
-    let ws = c .before .before .before .before .before .before .before .before .args .schedule .now in
-    let s = c .before .before .before .before .before .before .before .before .args .job .now in
-    let l = c .before .before .before .before .loop in
+    let c₁ = c .before .before .before .before in
+    let c₂ = c₁ .before .before .before .before in
+    let ws = c₂ .args .schedule .now in
+    let s = c₂ .args .job .now in
+    let l = c₁ .loop in
     (omega arith, below-more _ _ (l .inv .1) (notBelow-no (getD ws (l .i) 0) (workers s) (omega arith)))
 
 returns-2 : tie.Need-returns-2 Inv-loop μ-loop

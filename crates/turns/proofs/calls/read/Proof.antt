@@ -31,20 +31,23 @@ read-accepted-requires c κs = (well-formed _ (sym (c .before .before .enum-told
 returns : tie.Need-returns
 unfolding readCheck readAnswer
 returns c =
-    let s = c .before .before .before .before .before .before .args .job .now in
-    let t = c .before .before .before .before .before .before .args .table .now in
-    let k = c .before .before .before .before .before .before .args .claim in
+    let c₁ = c .before .before .before .before .before .before in
+    let s = c₁ .args .job .now in
+    let t = c₁ .args .table .now in
+    let k = c₁ .args .claim in
     let F : Check → ReadAnswer = λ x. readAnswer x t k in
     stops-at F (checkJob s) (checkTable (jobOf s) t ⨾ checkClaimRead s k) (c .before .number .given .1) (c .before .before .before .check-job .ensures) refl
 
 returns-2 : tie.Need-returns-2
 unfolding readCheck
 returns-2 c =
-    let s = c .before .before .before .before .before .before .before .before .args .job .now in
-    let t = c .before .before .before .before .before .before .before .before .args .table .now in
-    let k = c .before .before .before .before .before .before .before .before .args .claim in
+    let c₁ = c .before .before .before .before .before in
+    let c₂ = c₁ .before .before .before in
+    let s = c₂ .args .job .now in
+    let t = c₂ .args .table .now in
+    let k = c₂ .args .claim in
     let F : Check → ReadAnswer = λ x. readAnswer x t k in
-    goes-on F (checkJob s) (checkTable (jobOf s) t ⨾ checkClaimRead s k) (c .before .before .before .enum-told .given .1) (c .before .before .before .before .before .check-job .ensures) (c .read-accepted .ensures)
+    goes-on F (checkJob s) (checkTable (jobOf s) t ⨾ checkClaimRead s k) (c .before .before .before .enum-told .given .1) (c₁ .check-job .ensures) (c .read-accepted .ensures)
 
 pub read-spec : {M : Type 1} → statement M
 read-spec =

@@ -32,17 +32,21 @@ claim-count-requires c κs = search needs
 returns : tie.Need-returns
 unfolding checkClaimRead readAnswer
 returns c =
-    let s = c .before .before .before .before .before .before .before .args .job .now in
-    let t = c .before .before .before .before .before .before .before .args .table .now in
-    let k = c .before .before .before .before .before .before .before .args .claim in
+    let c₁ = c .before .before .before .before in
+    let c₂ = c₁ .before .before .before in
+    let s = c₂ .args .job .now in
+    let t = c₂ .args .table .now in
+    let k = c₂ .args .claim in
     let F : Check → ReadAnswer = λ x. readAnswer x t k in
-    goes-on F (checkTable (jobOf s) t) (checkClaimRead s k) (c .before .before .enum-told .given .1) (c .before .before .before .before .check-table .ensures) (ap F (stop _ _ _ _ (notBelow-yes k (claims s) (omega arith))))
+    goes-on F (checkTable (jobOf s) t) (checkClaimRead s k) (c .before .before .enum-told .given .1) (c₁ .check-table .ensures) (ap F (stop _ _ _ _ (notBelow-yes k (claims s) (omega arith))))
 
 mark-at-requires : tie.Need-mark-at-requires
 mark-at-requires c κs =
-    let s = c .before .before .before .before .before .before .before .args .job .now in
-    let t = c .before .before .before .before .before .before .before .args .table .now in
-    omega (arith, room s t (ranges (jobOf s) t (sym (c .before .before .enum-told .given .1) ∙ c .before .before .before .before .check-table .ensures)))
+    let c₁ = c .before .before .before .before in
+    let c₂ = c₁ .before .before .before in
+    let s = c₂ .args .job .now in
+    let t = c₂ .args .table .now in
+    omega (arith, room s t (ranges (jobOf s) t (sym (c .before .before .enum-told .given .1) ∙ c₁ .check-table .ensures)))
 
 reading-of-requires : tie.Need-reading-of-requires
 reading-of-requires c κs = search needs
@@ -50,20 +54,24 @@ reading-of-requires c κs = search needs
 returns-2 : tie.Need-returns-2
 unfolding readAnswer
 returns-2 c =
-    let s = c .before .before .before .before .before .before .args .job .now in
-    let t = c .before .before .before .before .before .before .args .table .now in
-    let k = c .before .before .before .before .before .before .args .claim in
+    let c₁ = c .before .before .before .before .before .before in
+    let s = c₁ .args .job .now in
+    let t = c₁ .args .table .now in
+    let k = c₁ .args .claim in
     let F : Check → ReadAnswer = λ x. readAnswer x t k in
     stops-at F (checkTable (jobOf s) t) (checkClaimRead s k) (c .before .number .given .1) (c .before .before .before .check-table .ensures) refl
 
 returns-3 : tie.Need-returns-3
 unfolding checkClaimRead readAnswer
 returns-3 c =
-    let s = c .before .before .before .before .before .before .before .before .before .args .job .now in
-    let t = c .before .before .before .before .before .before .before .before .before .args .table .now in
-    let k = c .before .before .before .before .before .before .before .before .before .args .claim in
+    let c₁ = c .before .before .before .before in
+    let c₂ = c₁ .before .before in
+    let c₃ = c₂ .before .before .before in
+    let s = c₃ .args .job .now in
+    let t = c₃ .args .table .now in
+    let k = c₃ .args .claim in
     let F : Check → ReadAnswer = λ x. readAnswer x t k in
-    goes-on F (checkTable (jobOf s) t) (checkClaimRead s k) (c .before .before .before .before .enum-told .given .1) (c .before .before .before .before .before .before .check-table .ensures)
+    goes-on F (checkTable (jobOf s) t) (checkClaimRead s k) (c₁ .enum-told .given .1) (c₂ .check-table .ensures)
     (ap Read (c .reading-of .ensures ∙ ap readingOf (c .before .mark-at .ensures .value)) ∙ ap F (pass _ _ _ _ (notBelow-no k (claims s) (omega arith)) refl))
 
 pub read-accepted-spec : {M : Type 1} → statement M

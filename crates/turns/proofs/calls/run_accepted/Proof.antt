@@ -27,9 +27,10 @@ enum-told-2 c = search needs
 
 run-in-range-requires : tie.Need-run-in-range-requires
 run-in-range-requires c κs =
-    let s = c .before .before .before .before .before .before .before .before .args .job .now in
-    let t = c .before .before .before .before .before .before .before .before .args .table .now in
-    let p = c .before .before .before .before .before .before .before .before .pre in
+    let c₁ = c .before .before .before .before .before .before .before .before in
+    let s = c₁ .args .job .now in
+    let t = c₁ .args .table .now in
+    let p = c₁ .pre in
     record { job = p .0; indexed = p .1; table = ranges (jobOf s) t (sym (c .before .enum-told2 .given .1) ∙ c .before .before .before .check-table .ensures) }
 
 same-length-2 : tie.Need-same-length-2

@@ -47,12 +47,15 @@ same-length c = search needs
 returns-2 : tie.Need-returns-2
 unfolding startCheck startTable
 returns-2 c =
-    let s = c .before .before .before .before .before .before .before .before .before .args .job .now in
-    let t = c .before .before .before .before .before .before .before .before .before .args .table .now in
+    let c₁ = c .before .before .before .before in
+    let c₂ = c₁ .before .before in
+    let c₃ = c₂ .before .before .before in
+    let s = c₃ .args .job .now in
+    let t = c₃ .args .table .now in
     let F : Check → List ℕ = λ x. startTable x s t in
     let G : Check → Check = λ x. x in
-    let a = c .before .before .before .before .enum-told2 .given .1 in
-    let b = c .before .before .before .before .before .before .check-job .ensures in
+    let a = c₁ .enum-told2 .given .1 in
+    let b = c₂ .check-job .ensures in
     let e = c .enum-told3 .given .1 in
     let q = c .before .before .check-room .ensures in
     (goes-on G (checkJob s) (checkRoom (jobOf s) t) a b q, (goes-on F (checkJob s) (checkRoom (jobOf s) t) a b (ap F (sym e ∙ q)), promise s))
@@ -62,8 +65,11 @@ enum-told-4 c = search needs
 
 write-start-requires : tie.Need-write-start-requires
 write-start-requires c κs =
-    let s = c .before .before .before .before .before .before .before .before .before .before .args .job .now in
-    (well-formed _ (sym (c .before .before .before .before .before .enum-told2 .given .1) ∙ c .before .before .before .before .before .before .before .check-job .ensures), enough-room (jobOf s) _ (sym (c .before .enum-told4 .given .1) ∙ c .before .before .before .check-room .ensures))
+    let c₁ = c .before .before .before .before .before in
+    let c₂ = c₁ .before .before in
+    let c₃ = c₂ .before .before .before in
+    let s = c₃ .args .job .now in
+    (well-formed _ (sym (c₁ .enum-told2 .given .1) ∙ c₂ .check-job .ensures), enough-room (jobOf s) _ (sym (c .before .enum-told4 .given .1) ∙ c .before .before .before .check-room .ensures))
 
 same-length-2 : tie.Need-same-length-2
 same-length-2 c = search needs
@@ -71,13 +77,18 @@ same-length-2 c = search needs
 returns-3 : tie.Need-returns-3
 unfolding startCheck startTable
 returns-3 c =
-    let s = c .before .before .before .before .before .before .before .before .before .before .before .before .before .args .job .now in
-    let t = c .before .before .before .before .before .before .before .before .before .before .before .before .before .args .table .now in
+    let c₁ = c .before .before .before .before in
+    let c₂ = c₁ .before .before in
+    let c₃ = c₂ .before .before in
+    let c₄ = c₃ .before .before in
+    let c₅ = c₄ .before .before .before in
+    let s = c₅ .args .job .now in
+    let t = c₅ .args .table .now in
     let F : Check → List ℕ = λ x. startTable x s t in
     let G : Check → Check = λ x. x in
-    let a = c .before .before .before .before .before .before .before .before .enum-told2 .given .1 in
-    let b = c .before .before .before .before .before .before .before .before .before .before .check-job .ensures in
-    let q = sym (c .before .before .before .before .enum-told4 .given .1) ∙ c .before .before .before .before .before .before .check-room .ensures in
+    let a = c₃ .enum-told2 .given .1 in
+    let b = c₄ .check-job .ensures in
+    let q = sym (c₁ .enum-told4 .given .1) ∙ c₂ .check-room .ensures in
     (goes-on G (checkJob s) (checkRoom (jobOf s) t) a b q, (goes-on F (checkJob s) (checkRoom (jobOf s) t) a b (c .before .before .write-start .ensures ∙ ap F q), promise s))
 
 pub start-spec : {M : Type 1} → statement M

@@ -33,9 +33,10 @@ turn-accepted-requires c κs = (well-formed _ (sym (c .before .before .before .e
 returns : tie.Need-returns
 unfolding turnCheck turnAnswer turnTable
 returns c =
-    let s = c .before .before .before .before .before .before .args .job .now in
-    let t = c .before .before .before .before .before .before .args .table .now in
-    let w = c .before .before .before .before .before .before .args .worker in
+    let c₁ = c .before .before .before .before .before .before in
+    let s = c₁ .args .job .now in
+    let t = c₁ .args .table .now in
+    let w = c₁ .args .worker in
     let F : Check → TurnAnswer = λ x. turnAnswer x s t w in
     let G : Check → List ℕ = λ x. turnTable x s t w in
     let a = c .before .number .given .1 in
@@ -48,13 +49,16 @@ same-length c = search needs
 returns-2 : tie.Need-returns-2
 unfolding turnCheck
 returns-2 c =
-    let s = c .before .before .before .before .before .before .before .before .before .before .before .args .job .now in
-    let t = c .before .before .before .before .before .before .before .before .before .before .before .args .table .now in
-    let w = c .before .before .before .before .before .before .before .before .before .before .before .args .worker in
+    let c₁ = c .before .before .before .before .before .before in
+    let c₂ = c₁ .before .before in
+    let c₃ = c₂ .before .before .before in
+    let s = c₃ .args .job .now in
+    let t = c₃ .args .table .now in
+    let w = c₃ .args .worker in
     let F : Check → TurnAnswer = λ x. turnAnswer x s t w in
     let G : Check → List ℕ = λ x. turnTable x s t w in
-    let a = c .before .before .before .before .before .before .enum-told .given .1 in
-    let b = c .before .before .before .before .before .before .before .before .check-job .ensures in
+    let a = c₁ .enum-told .given .1 in
+    let b = c₂ .check-job .ensures in
     let m = c .before .before .turn-accepted .ensures in
     (goes-on F (checkJob s) (checkTable (jobOf s) t ⨾ checkTurnWorker s w) a b (m .0), goes-on G (checkJob s) (checkTable (jobOf s) t ⨾ checkTurnWorker s w) a b (m .1))
 

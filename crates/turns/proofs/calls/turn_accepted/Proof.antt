@@ -36,22 +36,26 @@ same-length c = search needs
 returns : tie.Need-returns
 unfolding checkTurnWorker turnAnswer turnTable
 returns c =
-    let s = c .before .before .before .before .before .before .before .before .args .job .now in
-    let t = c .before .before .before .before .before .before .before .before .args .table .now in
-    let w = c .before .before .before .before .before .before .before .before .args .worker in
+    let c₁ = c .before .before .before .before in
+    let c₂ = c₁ .before .before .before .before in
+    let s = c₂ .args .job .now in
+    let t = c₂ .args .table .now in
+    let w = c₂ .args .worker in
     let F : Check → TurnAnswer = λ x. turnAnswer x s t w in
     let G : Check → List ℕ = λ x. turnTable x s t w in
     let a = c .before .before .enum-told .given .1 in
-    let b = c .before .before .before .before .check-table .ensures in
+    let b = c₁ .check-table .ensures in
     let q = stop _ _ _ _ (notBelow-yes w (workers s) (omega arith)) in
     (goes-on F (checkTable (jobOf s) t) (checkTurnWorker s w) a b (ap F q), goes-on G (checkTable (jobOf s) t) (checkTurnWorker s w) a b (ap G q))
 
 take-turn-requires : tie.Need-take-turn-requires
 take-turn-requires c κs =
-    let s = c .before .before .before .before .before .before .before .before .before .args .job .now in
-    let t = c .before .before .before .before .before .before .before .before .before .args .table .now in
-    let p = c .before .before .before .before .before .before .before .before .before .pre in
-    (record { job = p .0; indexed = p .1; table = ranges (jobOf s) t (sym (c .before .before .before .enum-told .given .1) ∙ c .before .before .before .before .before .check-table .ensures) }, omega arith)
+    let c₁ = c .before .before .before .before .before in
+    let c₂ = c₁ .before .before .before .before in
+    let s = c₂ .args .job .now in
+    let t = c₂ .args .table .now in
+    let p = c₂ .pre in
+    (record { job = p .0; indexed = p .1; table = ranges (jobOf s) t (sym (c .before .before .before .enum-told .given .1) ∙ c₁ .check-table .ensures) }, omega arith)
 
 same-length-2 : tie.Need-same-length-2
 same-length-2 c = search needs
@@ -59,9 +63,10 @@ same-length-2 c = search needs
 returns-2 : tie.Need-returns-2
 unfolding turnAnswer turnTable
 returns-2 c =
-    let s = c .before .before .before .before .before .before .before .args .job .now in
-    let t = c .before .before .before .before .before .before .before .args .table .now in
-    let w = c .before .before .before .before .before .before .before .args .worker in
+    let c₁ = c .before .before .before .before .before .before .before in
+    let s = c₁ .args .job .now in
+    let t = c₁ .args .table .now in
+    let w = c₁ .args .worker in
     let F : Check → TurnAnswer = λ x. turnAnswer x s t w in
     let G : Check → List ℕ = λ x. turnTable x s t w in
     let a = c .before .number .given .1 in
@@ -74,13 +79,16 @@ same-length-3 c = search needs
 returns-3 : tie.Need-returns-3
 unfolding checkTurnWorker turnAnswer turnTable
 returns-3 c =
-    let s = c .before .before .before .before .before .before .before .before .before .before .before .before .args .job .now in
-    let t = c .before .before .before .before .before .before .before .before .before .before .before .before .args .table .now in
-    let w = c .before .before .before .before .before .before .before .before .before .before .before .before .args .worker in
+    let c₁ = c .before .before .before .before .before .before in
+    let c₂ = c₁ .before .before in
+    let c₃ = c₂ .before .before .before .before in
+    let s = c₃ .args .job .now in
+    let t = c₃ .args .table .now in
+    let w = c₃ .args .worker in
     let F : Check → TurnAnswer = λ x. turnAnswer x s t w in
     let G : Check → List ℕ = λ x. turnTable x s t w in
-    let a = c .before .before .before .before .before .before .enum-told .given .1 in
-    let b = c .before .before .before .before .before .before .before .before .check-table .ensures in
+    let a = c₁ .enum-told .given .1 in
+    let b = c₂ .check-table .ensures in
     let q : Accepted ≡ checkTurnWorker s w = pass _ _ _ _ (notBelow-no w (workers s) (omega arith)) refl in
     let m = c .before .before .take-turn .ensures in
     (goes-on F (checkTable (jobOf s) t) (checkTurnWorker s w) a b (ap Made (m .kindIs) ∙ ap F q), goes-on G (checkTable (jobOf s) t) (checkTurnWorker s w) a b (m .tableIs ∙ ap G q))

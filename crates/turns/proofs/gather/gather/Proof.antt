@@ -87,23 +87,29 @@ expand-requires c κs =
 
 loop-less : tie.Need-loop-less Inv-loop μ-loop
 loop-less c =
-    let a = c .before .before .before .before .before .before .before in
-    let l = a .before .before .loop in
-    let r = a .before .before .before .before .before .before .before .before .before .before .before .before .pre .0 in
-    gathering-less _ _ _ r _ _ (l .inv .1) (a .before .loop-test .taken) _ (a .wide .ensures .value) _ (c .before .before .before .before .before .before .before .before .before .before .before .before .before .before .before .rule-count .ensures .value) _ (c .before .before .before .before .before .before .passed-over .ensures) _ (c .before .before .before .expand .ensures)
+    let c₁ = c .before .before .before .before .before .before in
+    let c₂ = c₁ .before in
+    let c₃ = c₂ .before .before .before .before .before .before .before .before in
+    let l = c₂ .before .before .loop in
+    let r = c₂ .before .before .before .before .before .before .before .before .before .before .before .before .pre .0 in
+    gathering-less _ _ _ r _ _ (l .inv .1) (c₂ .before .loop-test .taken) _ (c₂ .wide .ensures .value) _ (c₃ .rule-count .ensures .value) _ (c₁ .passed-over .ensures) _ (c .before .before .before .expand .ensures)
 
 loop-again : tie.Need-loop-again Inv-loop μ-loop
 loop-again c =
-    let a = c .before .before .before .before .before .before .before in
-    let l = a .before .before .loop in
-    let r = a .before .before .before .before .before .before .before .before .before .before .before .before .pre .0 in
-    (c .before .before .before .expand .kept .1 .1 .1 .1 .1 .0 ∙ l .inv .0, gathering-more _ _ _ r _ _ (l .inv .1) (a .before .loop-test .taken) _ (a .wide .ensures .value) _ (c .before .before .before .before .before .before .before .before .before .before .before .before .before .before .before .rule-count .ensures .value) _ (c .before .before .before .before .before .before .passed-over .ensures) _ (c .before .before .before .expand .ensures))
+    let c₁ = c .before .before .before .before .before .before in
+    let c₂ = c₁ .before in
+    let c₃ = c₂ .before .before .before .before .before .before .before .before in
+    let l = c₂ .before .before .loop in
+    let r = c₂ .before .before .before .before .before .before .before .before .before .before .before .before .pre .0 in
+    (c .before .before .before .expand .kept .1 .1 .1 .1 .1 .0 ∙ l .inv .0, gathering-more _ _ _ r _ _ (l .inv .1) (c₂ .before .loop-test .taken) _ (c₂ .wide .ensures .value) _ (c₃ .rule-count .ensures .value) _ (c₁ .passed-over .ensures) _ (c .before .before .before .expand .ensures))
 
 same-length : tie.Need-same-length Inv-loop μ-loop
 same-length c = c .before .loop .inv .1 .fits .long ∙ sym (c .before .before .before .before .before .before .before .before .before .before .before .pre .1 .0)
 
 returns : tie.Need-returns Inv-loop μ-loop
-returns c = gathering-done _ _ _ (c .before .before .before .before .before .before .before .before .before .before .before .pre .0) _ (c .before .before .before .before .before .before .before .before .before .before .before .pre .1 .1) _ (c .before .loop .inv .1) (c .loop-test .left)
+returns c =
+    let c₁ = c .before .before .before .before .before .before .before .before .before .before .before in
+    gathering-done _ _ _ (c₁ .pre .0) _ (c₁ .pre .1 .1) _ (c .before .loop .inv .1) (c .loop-test .left)
 
 pub gather-spec : {M : Type 1} → statement M
 gather-spec =

@@ -24,10 +24,11 @@ add-if2 c = search needs
 
 returns-2 : tie.Need-returns-2
 returns-2 c =
-    let i = c .before .before .before .before .before .before .args .index .now in
-    let t = c .before .before .before .before .before .before .args .table .now in
-    let w = c .before .before .before .before .before .before .args .w in
-    let k = c .before .before .before .before .before .before .args .c in
+    let c₁ = c .before .before .before .before .before .before in
+    let i = c₁ .args .index .now in
+    let t = c₁ .args .table .now in
+    let w = c₁ .args .w in
+    let k = c₁ .args .c in
     and-on _ _ (sym (c .before .before .before .member .ensures) ∙ not-false _ (c .before .before .if1 .left)) (and-off (owned t w k) (not (passedIn i t k)) (owned-no t w k (c .before .mark-at .ensures .value) (c .if2 .taken)))
 
 passed-all-requires : tie.Need-passed-all-requires
@@ -35,11 +36,13 @@ passed-all-requires c κs = search needs
 
 returns-3 : tie.Need-returns-3
 returns-3 c =
-    let i = c .before .before .before .before .before .before .before .args .index .now in
-    let t = c .before .before .before .before .before .before .before .args .table .now in
-    let w = c .before .before .before .before .before .before .before .args .w in
-    let k = c .before .before .before .before .before .before .before .args .c in
-    and-on _ _ (sym (c .before .before .before .before .member .ensures) ∙ not-false _ (c .before .before .before .if1 .left))
+    let c₁ = c .before .before .before .before in
+    let c₂ = c₁ .before .before .before in
+    let i = c₂ .args .index .now in
+    let t = c₂ .args .table .now in
+    let w = c₂ .args .w in
+    let k = c₂ .args .c in
+    and-on _ _ (sym (c₁ .member .ensures) ∙ not-false _ (c .before .before .before .if1 .left))
     (and-on (owned t w k) (not (passedIn i t k)) (owned-yes t w k (c .before .before .mark-at .ensures .value) (c .before .if2 .left)) (ap not (c .passed-all .ensures)))
 
 pub left-to-pass-spec : {M : Type 1} → statement M

@@ -31,9 +31,10 @@ add-result-2 c = search needs
 returns-2 : tie.Need-returns-2
 unfolding pick
 returns-2 c =
-    let t = c .before .before .before .before .before .args .table .now in
-    let best = c .before .before .before .before .before .args .best in
-    let cl = c .before .before .before .before .before .args .c in
+    let c₁ = c .before .before .before .before .before in
+    let t = c₁ .args .table .now in
+    let best = c₁ .args .best in
+    let cl = c₁ .args .c in
     let a : number t (best - 1) ≡ c .before .before .number-at .result = sym (c .before .before .number-at .ensures .value) in
     let b : number t cl ≡ c .before .number-at2 .result = sym (c .before .number-at2 .ensures .value) in
     rw (ne-eqb best 0 (c .before .before .before .if1 .left), a, b, lt-ltb _ _ (c .if2 .taken)) (add-one cl)
@@ -41,9 +42,10 @@ returns-2 c =
 returns-3 : tie.Need-returns-3
 unfolding pick
 returns-3 c =
-    let t = c .before .before .before .before .before .args .table .now in
-    let best = c .before .before .before .before .before .args .best in
-    let cl = c .before .before .before .before .before .args .c in
+    let c₁ = c .before .before .before .before .before in
+    let t = c₁ .args .table .now in
+    let best = c₁ .args .best in
+    let cl = c₁ .args .c in
     let a : number t (best - 1) ≡ c .before .before .number-at .result = sym (c .before .before .number-at .ensures .value) in
     let b : number t cl ≡ c .before .number-at2 .result = sym (c .before .number-at2 .ensures .value) in
     rw (ne-eqb best 0 (c .before .before .before .if1 .left), a, b, le-ltb _ _ (c .if2 .left))

@@ -32,9 +32,11 @@ loop-less c = omega arith
 
 loop-again : tie.Need-loop-again Inv-loop μ-loop
 loop-again c =
-    let t = c .before .before .before .before .before .before .args .table .now in
-    let w = c .before .before .before .before .before .before .args .w in
-    let l = c .before .before .before .before .loop in
+    let c₁ = c .before .before .before .before in
+    let c₂ = c₁ .before .before in
+    let t = c₂ .args .table .now in
+    let w = c₂ .args .w in
+    let l = c₁ .loop in
     swept-more (l .inv) (c .before .before .before .loop-test .taken) (owned-yes t w (l .c - 1) (c .before .before .mark-at .ensures .value) (c .before .if1 .taken)) (c .newer .ensures)
 
 loop-less-2 : tie.Need-loop-less-2 Inv-loop μ-loop

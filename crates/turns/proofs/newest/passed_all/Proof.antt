@@ -28,10 +28,12 @@ sub-result c = search needs
 
 returns-2 : tie.Need-returns-2
 returns-2 c =
-    let i = c .before .before .before .before .before .before .args .index .now in
-    let t = c .before .before .before .before .before .before .args .table .now in
-    let k = c .before .before .before .before .before .before .args .c in
-    passed-is i t k (c .before .cursor-at2 .ensures .value) (cursor-size i k (c .before .before .before .before .over .ensures))
+    let c₁ = c .before .before .before .before in
+    let c₂ = c₁ .before .before in
+    let i = c₂ .args .index .now in
+    let t = c₂ .args .table .now in
+    let k = c₂ .args .c in
+    passed-is i t k (c .before .cursor-at2 .ensures .value) (cursor-size i k (c₁ .over .ensures))
 
 pub passed-all-spec : {M : Type 1} → statement M
 passed-all-spec =

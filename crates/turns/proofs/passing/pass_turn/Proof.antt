@@ -11,15 +11,18 @@ use Rattle.turns.proofs.passing.pass_turn.Tie as tie
 -- what was read, and the table with the cursor moved on
 facts : (c : tie.After-store-word) → Passing (c .before .before .before .before .before .before .before .before .before .args .job .now) (c .before .before .before .before .before .before .before .before .before .args .table .now) (c .before .before .before .before .before .before .before .before .before .args .w) (c .before .before .before .before .before .before .before .before .before .args .c) (c .before .before .before .before .before .cursor-at .result) (c .before .before .before .before .next-claim .result) (c .before .before .mark-at .result) (c .store-word .last .0)
 facts c =
-    let a = c .before .before .before .before .before .before .before .before .before .pre .1 in
+    let c₁ = c .before .before .before .before in
+    let c₂ = c₁ .before in
+    let c₃ = c₂ .before .before .before .before in
+    let a = c₃ .pre .1 in
     record {
       claim = a .0 .0;
       worker = a .0 .1;
       own = eqb-true _ _ (a .1 .0);
       left = a .1 .1;
-      passed = c .before .before .before .before .before .cursor-at .ensures .value;
-      next = c .before .before .before .before .next-claim .ensures .0;
-      low = c .before .before .before .before .next-claim .ensures .1;
+      passed = c₂ .cursor-at .ensures .value;
+      next = c₁ .next-claim .ensures .0;
+      low = c₁ .next-claim .ensures .1;
       read = c .before .before .mark-at .ensures .value;
       stored = c .store-word .ensures;
     }
@@ -69,37 +72,54 @@ returns-2 c = pass-own (facts (c .before .before .before .before)) (c .before .i
 
 open-claim-requires : tie.Need-open-claim-requires
 open-claim-requires c κs =
-    let a = c .before .before .before .before .before .before .before .before .before .before .before .before .before .before .before .pre .0 in
-    let g = facts (c .before .before .before .before .before .before) in
+    let c₁ = c .before .before .before .before .before .before in
+    let c₂ = c₁ .before .before .before .before .before .before .before .before .before in
+    let a = c₂ .pre .0 in
+    let g = facts c₁ in
     omega (arith, room _ _ (a .table), a .job .sized .claimsMost, a .job .sized .workersMost, g .low, g .worker, moved-length g, moved-opened g (a .job) (a .table) (c .before .if3 .taken))
 
 same-length-3 : tie.Need-same-length-3
 same-length-3 c = search needs
 
 returns-3 : tie.Need-returns-3
-returns-3 c = pass-fresh (facts (c .before .before .before .before .before .before .before .before .before)) (c .before .before .before .before .before .before .if1 .left) (c .before .before .before .before .before .if2 .left) (c .before .before .before .before .if3 .taken) (c .before .before .open-claim .ensures)
+returns-3 c =
+    let c₁ = c .before .before .before .before in
+    let c₂ = c₁ .before in
+    let c₃ = c₂ .before in
+    let c₄ = c₃ .before .before .before in
+    pass-fresh (facts c₄) (c₃ .if1 .left) (c₂ .if2 .left) (c₁ .if3 .taken) (c .before .before .open-claim .ensures)
 
 sub-meets-worker : tie.Need-sub-meets-worker
 sub-meets-worker c = search needs
 
 meets-worker-requires : tie.Need-meets-worker-requires
 meets-worker-requires c κs =
-    let a = c .before .before .before .before .before .before .before .before .before .before .before .before .before .before .before .pre .0 in
-    let g = facts (c .before .before .before .before .before .before) in
+    let c₁ = c .before .before .before .before .before .before in
+    let c₂ = c₁ .before .before .before .before .before .before .before .before .before in
+    let a = c₂ .pre .0 in
+    let g = facts c₁ in
     (a .job, moved-range g (a .job) (a .table), moved-owner g (a .job) (a .table) (c .before .if3 .left) (c .before .before .before .if1 .left))
 
 take-over-requires : tie.Need-take-over-requires
 take-over-requires c κs =
-    let a = c .before .before .before .before .before .before .before .before .before .before .before .before .before .before .before .before .before .before .pre in
-    (moved-ready (facts (c .before .before .before .before .before .before .before .before .before)) (a .0), a .1 .0)
+    let c₁ = c .before .before .before .before .before .before .before .before .before in
+    let c₂ = c₁ .before .before .before .before .before .before .before .before .before in
+    let a = c₂ .pre in
+    (moved-ready (facts c₁) (a .0), a .1 .0)
 
 same-length-4 : tie.Need-same-length-4
 same-length-4 c = search needs
 
 returns-4 : tie.Need-returns-4
 returns-4 c =
-    let g = facts (c .before .before .before .before .before .before .before .before .before .before .before .before) in
-    pass-took g (c .before .before .before .before .before .before .before .before .before .if1 .left) (c .before .before .before .before .before .before .before .before .if2 .left) (c .before .before .before .before .before .before .before .if3 .left) (c .before .before .before .before .before .meets-worker .ensures) (c .before .before .before .before .if4 .taken) (c .before .before .take-over .ensures)
+    let c₁ = c .before .before .before .before in
+    let c₂ = c₁ .before in
+    let c₃ = c₂ .before .before in
+    let c₄ = c₃ .before in
+    let c₅ = c₄ .before in
+    let c₆ = c₅ .before .before .before in
+    let g = facts c₆ in
+    pass-took g (c₅ .if1 .left) (c₄ .if2 .left) (c₃ .if3 .left) (c₂ .meets-worker .ensures) (c₁ .if4 .taken) (c .before .before .take-over .ensures)
 
 claim-count-requires : tie.Need-claim-count-requires
 claim-count-requires c κs = search needs
@@ -121,8 +141,10 @@ add-store-word-5 c = search needs
 
 store-word-requires-2 : tie.Need-store-word-requires-2
 store-word-requires-2 c κs =
-    let a = c .before .before .before .before .before .before .before .before .before .before .before .before .before .before .before .before .before .before .before .pre .0 in
-    let g = facts (c .before .before .before .before .before .before .before .before .before .before) in
+    let c₁ = c .before .before .before .before .before .before .before .before .before .before in
+    let c₂ = c₁ .before .before .before .before .before .before .before .before .before in
+    let a = c₂ .pre .0 in
+    let g = facts c₁ in
     omega (arith, room _ _ (a .table), a .job .sized .claimsMost, g .low, g .worker, moved-length g, c .before .claim-count .ensures .value)
 
 same-length-5 : tie.Need-same-length-5
@@ -130,8 +152,15 @@ same-length-5 c = search needs
 
 returns-5 : tie.Need-returns-5
 returns-5 c =
-    let g = facts (c .before .before .before .before .before .before .before .before .before .before .before .before .before) in
-    pass-waits g (c .before .before .before .before .before .before .before .before .before .before .if1 .left) (c .before .before .before .before .before .before .before .before .before .if2 .left) (c .before .before .before .before .before .before .before .before .if3 .left) (c .before .before .before .before .before .before .meets-worker .ensures) (c .before .before .before .before .before .if4 .left) (c .before .before .before .before .claim-count .ensures .value) (c .before .before .store-word2 .ensures)
+    let c₁ = c .before .before .before .before in
+    let c₂ = c₁ .before in
+    let c₃ = c₂ .before in
+    let c₄ = c₃ .before .before in
+    let c₅ = c₄ .before in
+    let c₆ = c₅ .before in
+    let c₇ = c₆ .before .before .before in
+    let g = facts c₇ in
+    pass-waits g (c₆ .if1 .left) (c₅ .if2 .left) (c₄ .if3 .left) (c₃ .meets-worker .ensures) (c₂ .if4 .left) (c₁ .claim-count .ensures .value) (c .before .before .store-word2 .ensures)
 
 pub pass-turn-spec : {M : Type 1} → statement M
 pass-turn-spec =

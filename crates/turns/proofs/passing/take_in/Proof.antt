@@ -31,14 +31,15 @@ same-length-2 c = search needs
 
 returns : tie.Need-returns
 returns c =
-    let a = c .before .before .before .before .before .before .before .before .before .before .before .before .before in
-    let s = a .args .job .now in
-    let t = a .args .table .now in
-    let w = a .args .w in
-    let g = c .before .before .before .before .before .before .before .gather in
+    let c₁ = c .before .before .before .before .before .before .before in
+    let c₂ = c₁ .before .before .before .before .before .before in
+    let s = c₂ .args .job .now in
+    let t = c₂ .args .table .now in
+    let w = c₂ .args .w in
+    let g = c₁ .gather in
     c .before .before .take-members .ensures
     ∙ ap (λ (m : List ℕ). markAll (λ (d : ℕ). w + 1) (keep (λ (d : ℕ). not (fresh t d)) m) t)
-    (members-reached _ t _ (omega (arith, sizes s .claims-are, a .pre .1 .1)) _ (g .kept .1 .1 .1 .1 .0 ∙ (a .pre .1 .0 ∙ sym (sizes s .claims-are))) (g .ensures))
+    (members-reached _ t _ (omega (arith, sizes s .claims-are, c₂ .pre .1 .1)) _ (g .kept .1 .1 .1 .1 .0 ∙ (c₂ .pre .1 .0 ∙ sym (sizes s .claims-are))) (g .ensures))
 
 pub take-in-spec : {M : Type 1} → statement M
 take-in-spec =

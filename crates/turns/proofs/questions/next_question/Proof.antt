@@ -52,10 +52,12 @@ loop-less c = omega arith
 
 loop-again : tie.Need-loop-again Inv-loop μ-loop
 loop-again c =
-    let s = c .before .before .before .before .before .before .before .before .before .args .job .now in
-    let w = c .before .before .before .before .before .before .before .before .before .args .w in
-    let n = c .before .before .before .before .before .before .before .before .before .args .n in
-    let l = c .before .before .before .before .loop in
+    let c₁ = c .before .before .before .before in
+    let c₂ = c₁ .before .before .before .before .before in
+    let s = c₂ .args .job .now in
+    let w = c₂ .args .w in
+    let n = c₂ .args .n in
+    let l = c₁ .loop in
     let a = asked (c .before .before) in
     ⊎-elim
     (λ x. subst⁻¹ (Seeks s w n (l .q + 1)) (x .2) (passes s w (l .inv) (omega arith) (sym (a .worker-is) ∙ x .0 .taken) (x .1 .left)))

@@ -41,9 +41,12 @@ loop-less c = omega arith
 
 loop-again : tie.Need-loop-again Inv-loop μ-loop
 loop-again c =
-    let p = c .before .before .before .before .before .before .before .before .before .before .before .before .before .pre in
-    let l = c .before .before .before .before .before .before .before .before .loop in
-    let named = c .before .before .before .before .wide .ensures .value in
+    let c₁ = c .before .before .before .before in
+    let c₂ = c₁ .before .before .before .before in
+    let c₃ = c₂ .before .before .before .before .before in
+    let p = c₃ .pre in
+    let l = c₂ .loop in
+    let named = c₁ .wide .ensures .value in
     let h = p .1 (l .i) (omega arith) in
     partly-more _ _ _ (p .0 .job) (l .inv) (omega arith) named (omega arith) (c .before .before .before .take-turn .ensures) (c .counted .ensures)
 

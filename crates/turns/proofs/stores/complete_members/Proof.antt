@@ -51,9 +51,10 @@ loop-less c = omega arith
 
 loop-again : tie.Need-loop-again Inv-loop μ-loop
 loop-again c =
-    let seen = c .before .before .before .before .before .before .before .args .seen .now in
-    let values = c .before .before .before .before .before .before .before .args .values .now in
-    let t₀ = c .before .before .before .before .before .before .before .args .table .now in
+    let c₁ = c .before .before .before .before .before .before .before in
+    let seen = c₁ .args .seen .now in
+    let values = c₁ .args .values .now in
+    let t₀ = c₁ .args .table .now in
     let l = c .before .before .before .loop in
     let f : ℕ → ℕ = λ d. 255 + getD values d 0 in
     let h = c .before .before .loop-test .taken in

@@ -53,10 +53,12 @@ loop-less c = omega arith
 
 loop-again : tie.Need-loop-again Inv-loop μ-loop
 loop-again c =
-    let seen = c .before .before .before .before .before .before .before .args .seen .now in
-    let t₀ = c .before .before .before .before .before .before .before .args .table .now in
-    let w = c .before .before .before .before .before .before .before .args .w in
-    let l = c .before .before .before .before .loop in
+    let c₁ = c .before .before .before .before in
+    let c₂ = c₁ .before .before .before in
+    let seen = c₂ .args .seen .now in
+    let t₀ = c₂ .args .table .now in
+    let w = c₂ .args .w in
+    let l = c₁ .loop in
     let f : ℕ → ℕ = λ d. w + 1 in
     let p : ℕ → Bool = λ d. setOf seen d && not (fresh t₀ d) in
     let h = c .before .before .before .loop-test .taken in

@@ -20,11 +20,13 @@ awaited-at-requires c κs =
 
 wait-turn-requires : tie.Need-wait-turn-requires
 wait-turn-requires c κs =
-    let a = c .before .before .before .before .before .before .before .args in
+    let c₁ = c .before .before .before .before in
+    let c₂ = c₁ .before .before .before in
+    let a = c₂ .args in
     let s = a .job .now in
     let t = a .table .now in
-    let p = c .before .before .before .before .before .before .before .pre in
-    ((p .0 .job, p .0 .table, p .1), (c .before .if1 .taken, awaited-read s t (a .w) (c .before .before .before .before .claim-count .ensures .value) (c .before .before .awaited-at .ensures .value)))
+    let p = c₂ .pre in
+    ((p .0 .job, p .0 .table, p .1), (c .before .if1 .taken, awaited-read s t (a .w) (c₁ .claim-count .ensures .value) (c .before .before .awaited-at .ensures .value)))
 
 same-length : tie.Need-same-length
 same-length c = search needs
@@ -48,12 +50,17 @@ same-length-2 c = search needs
 
 returns-2 : tie.Need-returns-2
 returns-2 c =
-    let a = c .before .before .before .before .before .before .before .before .before .before .before .before .before .args in
+    let c₁ = c .before .before .before .before in
+    let c₂ = c₁ .before in
+    let c₃ = c₂ .before .before .before in
+    let c₄ = c₃ .before .before in
+    let c₅ = c₄ .before .before .before in
+    let a = c₅ .args in
     let s = a .job .now in
     let t = a .table .now in
-    let p = c .before .before .before .before .before .before .before .before .before .before .before .before .before .pre in
-    let e = awaited-read s t (a .w) (c .before .before .before .before .before .before .before .before .before .before .claim-count .ensures .value) (c .before .before .before .before .before .before .before .before .awaited-at .ensures .value) in
-    asks s t (a .w) e (omega arith) (c .before .before .before .before .before .before .before .before .before .before .claim-count .ensures .value) (c .before .before .before .before .before .newest-owned .ensures .0) (c .before .before .before .before .if2 .taken) (c .before .before .ask-turn .ensures)
+    let p = c₅ .pre in
+    let e = awaited-read s t (a .w) (c₄ .claim-count .ensures .value) (c₃ .awaited-at .ensures .value) in
+    asks s t (a .w) e (omega arith) (c₄ .claim-count .ensures .value) (c₂ .newest-owned .ensures .0) (c₁ .if2 .taken) (c .before .before .ask-turn .ensures)
 
 sub-work-turn : tie.Need-sub-work-turn
 sub-work-turn c = search needs
@@ -66,12 +73,17 @@ same-length-3 c = search needs
 
 returns-3 : tie.Need-returns-3
 returns-3 c =
-    let a = c .before .before .before .before .before .before .before .before .before .before .before .before .before .args in
+    let c₁ = c .before .before .before .before in
+    let c₂ = c₁ .before in
+    let c₃ = c₂ .before .before .before in
+    let c₄ = c₃ .before .before in
+    let c₅ = c₄ .before .before .before in
+    let a = c₅ .args in
     let s = a .job .now in
     let t = a .table .now in
-    let p = c .before .before .before .before .before .before .before .before .before .before .before .before .before .pre in
-    let e = awaited-read s t (a .w) (c .before .before .before .before .before .before .before .before .before .before .claim-count .ensures .value) (c .before .before .before .before .before .before .before .before .awaited-at .ensures .value) in
-    works s t (a .w) e (omega arith) (c .before .before .before .before .before .before .before .before .before .before .claim-count .ensures .value) (c .before .before .before .before .before .newest-owned .ensures .0) (c .before .before .before .before .if2 .left) (c .before .before .work-turn .ensures)
+    let p = c₅ .pre in
+    let e = awaited-read s t (a .w) (c₄ .claim-count .ensures .value) (c₃ .awaited-at .ensures .value) in
+    works s t (a .w) e (omega arith) (c₄ .claim-count .ensures .value) (c₂ .newest-owned .ensures .0) (c₁ .if2 .left) (c .before .before .work-turn .ensures)
 
 pub take-turn-spec : {M : Type 1} → statement M
 take-turn-spec =

@@ -47,11 +47,15 @@ same-length c = search needs
 
 returns : tie.Need-returns
 returns c =
-    let a = c .before .before .before .before .before .before .before .before .before .before .args in
+    let c₁ = c .before .before .before .before in
+    let c₂ = c₁ .before in
+    let c₃ = c₂ .before .before in
+    let c₄ = c₃ .before .before .before in
+    let a = c₄ .args in
     let s = a .job .now in
     let t = a .table .now in
-    let p = c .before .before .before .before .before .before .before .before .before .before .pre in
-    made-from (c .before .before .store-word .ensures) (wakes s t (a .w) (p .1 .1) (λ e. omega arith) (c .before .before .before .before .before .mark-at .ensures .value) (c .before .before .before .before .if1 .taken) (c .before .before .before .before .before .before .before .claim-count .ensures .value))
+    let p = c₄ .pre in
+    made-from (c .before .before .store-word .ensures) (wakes s t (a .w) (p .1 .1) (λ e. omega arith) (c₂ .mark-at .ensures .value) (c₁ .if1 .taken) (c₃ .claim-count .ensures .value))
 
 same-length-2 : tie.Need-same-length-2
 same-length-2 c = search needs

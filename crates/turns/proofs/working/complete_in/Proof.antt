@@ -18,8 +18,10 @@ evaluate-known-requires c κs = search needs
 
 complete-members-requires : tie.Need-complete-members-requires
 complete-members-requires c κs =
-    let a = c .before .before .before .before .before .before .before .before .before .before .before .before .before .before .before .before .before .pre in
-    omega (arith, a .1 .0, a .1 .2, c .before .before .before .before .evaluate-known .kept .1 .1 .0, a .0 .0 .sized .claimsMost, room _ _ (a .0 .1))
+    let c₁ = c .before .before .before .before in
+    let c₂ = c₁ .before .before .before .before .before .before .before .before .before .before .before .before .before in
+    let a = c₂ .pre in
+    omega (arith, a .1 .0, a .1 .2, c₁ .evaluate-known .kept .1 .1 .0, a .0 .0 .sized .claimsMost, room _ _ (a .0 .1))
 
 same-length : tie.Need-same-length
 same-length c = search needs
@@ -32,8 +34,10 @@ same-length-3 c = search needs
 
 returns : tie.Need-returns
 returns c =
-    let a = c .before .before .before .before .before .before .before .before .before .before .before .before .before .before .before .before .before .before .before .before in
-    completed (a .args .job .now) (a .args .table .now) (a .args .values .now) _ (a .pre .1 .1) (c .before .before .before .before .before .before .before .before .before .before .before .before .read-values .ensures) (c .before .before .before .before .before .before .before .evaluate-known .ensures) (a .args .seen .now) (a .pre .1 .0) (c .before .before .complete-members .ensures)
+    let c₁ = c .before .before .before .before .before .before .before in
+    let c₂ = c₁ .before .before .before .before .before in
+    let c₃ = c₂ .before .before .before .before .before .before .before .before in
+    completed (c₃ .args .job .now) (c₃ .args .table .now) (c₃ .args .values .now) _ (c₃ .pre .1 .1) (c₂ .read-values .ensures) (c₁ .evaluate-known .ensures) (c₃ .args .seen .now) (c₃ .pre .1 .0) (c .before .before .complete-members .ensures)
 
 pub complete-in-spec : {M : Type 1} → statement M
 complete-in-spec =
