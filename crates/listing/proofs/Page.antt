@@ -17,7 +17,7 @@ use Rattle.table.specs.Start.{startWords}
 use Rattle.turns.specs.Turn.{runTable, runKinds}
 use Rattle.turns.specs.Calls.{tally}
 use Rattle.listing.specs.Text.{Put, decimal, lineEnd, claimsWord, questionsWord}
-use Rattle.listing.specs.Listing.{claimLine, questionLines, tallyLine, heading, textOf, played, listed}
+use Rattle.listing.specs.Listing.{claimLine, questionLines, tallyLine, heading, textOf, played, lastTable, listed}
 use Rattle.listing.proofs.Decimal.{length-room}
 use Rattle.listing.proofs.Runs.{Run, run-start, run-more}
 
@@ -62,7 +62,7 @@ pub listed-by :
     (j : Job) (ws : List ℕ) {t₀ t ns : List ℕ} {buf out : List ℕ} {r : ℕ} → t₀ ≡ replicate (used j) 0
     → ns ≡ tally (runKinds j (startWords j t₀) (played j (startWords j t₀) ws)) → t ≡ runTable j (startWords j t₀) (played j (startWords j t₀) ws)
     → Put buf 0 (textOf j t ns) out r → Put buf 0 (listed j ws) out r
-unfolding listed
+unfolding listed lastTable
 listed-by j ws {t₀ = t₀} {t = t} {ns = ns} {buf = buf} {out = out} {r = r} z n m p =
     let e : textOf j t ns ≡ listed j ws =
     ap₂ (textOf j) m n

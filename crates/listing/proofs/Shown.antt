@@ -2,9 +2,10 @@
 --   AtPlace, placed-span   question i stands among its worker's questions
 --   named-unopened         a fresh claim is shown as unopened; not-open   a complete one is not shown as open
 --   answer-shown, claim-shown, claim-fresh, claim-asked   the words of questions and claims, once all turns are played
+--   named, lines-shown     verdicts by their names, and the question lines that show them
 --   told                   specs/Told, of every input
 use Prim.Native.Nat.{ℕ, zero, suc, _+_, _≤_, _<_}
-use mathlib.Core.Path.{_≡_, refl, sym, _∙_, ap, subst}
+use mathlib.Core.Path.{_≡_, refl, sym, _∙_, ap, ap₂, subst}
 use mathlib.Core.Bool.{Bool, true, false}
 use mathlib.Core.Logic.{by-cases}
 use mathlib.Core.List.{List, [], _∷_, _++_, flatMap}
@@ -41,8 +42,8 @@ use Rattle.turns.proofs.OnLists.{valid, ok}
 use Rattle.turns.proofs.Histories.{low-append, low-all}
 use Rattle.listing.specs.Text.{decimal, blank, lineEnd, claimsWord, questionsWord, refusedWord, nameOf, unopenedName}
 use Rattle.listing.specs.Finish.{finishTurns, most}
-use Rattle.listing.specs.Listing.{jobPart, schedulePart, listingCheck, refusalLine, claimLine, questionLines, tallyLine, heading, textOf, answerLine, lineOf, played, listed, listingIf, listing}
-use Rattle.listing.specs.Told.{Told, lastTable, questionOf}
+use Rattle.listing.specs.Listing.{jobPart, schedulePart, listingCheck, refusalLine, claimLine, questionLines, tallyLine, heading, textOf, questionLine, played, lastTable, listed, listingIf, listing}
+use Rattle.listing.specs.Told.{wordOf, verdictLine, Shows, Told}
 use Rattle.listing.proofs.Finished.{all-each, low-finish, finished-in}
 use Rattle.listing.proofs.Accepting.{AcceptedInput, accepted-input}
 
@@ -77,14 +78,6 @@ module _ (f : ℕ → Question) where
       (later (eqb (f a .worker) w) (positionsOf (span f (suc a) n) (suc k) w) k (suc k + i)
       (placed-span n (suc a) (suc k) i w (omega arith) (ap (λ (x : ℕ). f x .worker) (sym z) ∙ e)))
 
-  claim-span : (n a i : ℕ) → i < n → claimAsked (span f a n) i ≡ f (a + i) .claim
-  unfolding span claimAsked
-  claim-span zero a i h = absurd (omega arith)
-  claim-span (suc n) a zero h = let z : a ≡ a + 0 = omega arith in ap (λ (x : ℕ). f x .claim) z
-  claim-span (suc n) a (suc i) h =
-      let z : suc a + i ≡ a + suc i = omega arith in
-      claim-span n (suc a) i (omega arith) ∙ ap (λ (x : ℕ). f x .claim) z
-
 named-unopened : (m : ℕ) → m ≡ 0 → nameOf (readingOf m) ≡ unopenedName
 unfolding readingOf pick
 named-unopened m e = rw (eq-eqb m 0 e)
@@ -100,6 +93,31 @@ unfolding readingOf pick
 not-open True q = let z : _≡_ {A = ℕ} 0 1 = cc in absurd (omega arith)
 not-open False q = let z : _≡_ {A = ℕ} 0 1 = cc in absurd (omega arith)
 not-open Undefined q = let z : _≡_ {A = ℕ} 0 1 = cc in absurd (omega arith)
+
+named : (v : Verdict) → nameOf (readingOf (markOf v)) ≡ wordOf v
+unfolding readingOf pick
+named True = refl
+named False = refl
+named Undefined = refl
+
+-- the lines of questions whose words hold the verdicts
+lines-shown :
+    (j : Job) (t : List ℕ) (qs : List Question) (k : ℕ)
+    → ((i : ℕ) → i < length qs → getD t (answerWord j (k + i)) 0 ≡ byteOf (verdict (programOf j) (claimAsked qs i)))
+    → questionLines j t k qs ≡ flatMap (verdictLine j) qs
+unfolding questionLines flatMap claimAsked
+lines-shown j t [] k f = refl
+lines-shown j t (q ∷ qs) k f =
+    let z : k + 0 ≡ k = omega arith in
+    let word : getD t (answerWord j k) 0 ≡ byteOf (verdict (programOf j) (q .claim)) =
+    ap (λ (x : ℕ). getD t (answerWord j x) 0) (sym z) ∙ f 0 (omega arith) in
+    let name : nameOf (readingOf (255 + getD t (answerWord j k) 0)) ≡ wordOf (verdict (programOf j) (q .claim)) =
+    ap (λ (x : ℕ). nameOf (readingOf (255 + x))) word ∙ named (verdict (programOf j) (q .claim)) in
+    let here : questionLine j t k q ≡ verdictLine j q =
+    ap (λ (x : List ℕ). decimal (q .worker) ++ (blank ∷ []) ++ decimal (q .claim) ++ (blank ∷ []) ++ x ++ (lineEnd ∷ [])) name in
+    ap₂ _++_ here
+    (lines-shown j t qs (k + 1)
+    (λ i h. let e : k + 1 + i ≡ k + suc i = omega arith in ap (λ (x : ℕ). getD t (answerWord j x) 0) e ∙ f (suc i) (omega arith)))
 
 -- the table once all turns are played
 module _ (s : List ℕ) (e : Accepted ≡ checkJob s) (t : List ℕ) (room : P.Fresh s t) (ws : List ℕ) (low : Low (jobOf s) ws) where
@@ -126,7 +144,7 @@ module _ (s : List ℕ) (e : Accepted ≡ checkJob s) (t : List ℕ) (room : P.F
   all-answered w h = omega (arith, all-each (jobOf s) u (finished-in s e t room ws low) w h, made .range .answers w h)
 
   -- the word of question k
-  pub answer-shown : (k : ℕ) → k < questions s → getD u (answerWord (jobOf s) k) 0 ≡ byteOf (verdict (programOf (jobOf s)) (questionOf s k .claim))
+  pub answer-shown : (k : ℕ) → k < questions s → getD u (answerWord (jobOf s) k) 0 ≡ byteOf (verdict (programOf (jobOf s)) (claimAsked (jobOf s .questions) k))
   unfolding questionClaim askedBy jobOf
   answer-shown k h =
       let f : ℕ → Question = questionAt s (rules s) (literals s) in
@@ -137,9 +155,9 @@ module _ (s : List ℕ) (e : Accepted ≡ checkJob s) (t : List ℕ) (room : P.F
       let here : getD (askedBy (jobOf s) w) (p .at) 0 ≡ k = p .is ∙ z in
       let said : getD u (answerWord (jobOf s) (getD (askedBy (jobOf s) w) (p .at) 0)) 0 ≡ byteOf (verdict (programOf (jobOf s)) (questionClaim (jobOf s) w (p .at))) =
       made .verdicts .words w (p .at) small (omega (arith, p .real, all-answered w small)) in
-      let claim : questionClaim (jobOf s) w (p .at) ≡ f k .claim =
-      ap (claimAsked (jobOf s .questions)) here ∙ claim-span f (questions s) 0 k h ∙ ap (λ (x : ℕ). f x .claim) z in
-      ap (λ (x : ℕ). getD u (answerWord (jobOf s) x) 0) (sym here) ∙ said ∙ ap (λ (x : ℕ). byteOf (verdict (programOf (jobOf s)) x)) claim
+      ap (λ (x : ℕ). getD u (answerWord (jobOf s) x) 0) (sym here)
+      ∙ said
+      ∙ ap (λ (x : ℕ). byteOf (verdict (programOf (jobOf s)) (claimAsked (jobOf s .questions) x))) here
 
   pub claim-shown : (c : ℕ) → c < jobOf s .claims → Asked (jobOf s) c → mark u c ≡ markOf (verdict (programOf (jobOf s)) c)
   claim-shown c h a =
@@ -197,42 +215,36 @@ listing-some : (i : List ℕ) → 1 ≤ length (listing i)
 unfolding listing
 listing-some i = checked-some (listingCheck i) i
 
+-- the line of a claim by the name that it has
+claim-line : (c : ℕ) {x y : List ℕ} → x ≡ y → decimal c ++ (blank ∷ []) ++ x ++ (lineEnd ∷ []) ≡ decimal c ++ (blank ∷ []) ++ y ++ (lineEnd ∷ [])
+claim-line c e = ap (λ (x : List ℕ). decimal c ++ (blank ∷ []) ++ x ++ (lineEnd ∷ [])) e
+
+-- what the lines show
 module _ (i : List ℕ) (e : Accepted ≡ listingCheck i) where
   abbrev s : List ℕ
   s = jobPart i
 
-  zeros-enough : P.Fresh s (replicate (used (jobOf s)) 0)
-  zeros-enough = omega (arith, length-replicate {A = ℕ} (used (jobOf s)) 0)
+  abbrev zeros : List ℕ
+  zeros = replicate (used (jobOf (jobPart i))) 0
+
+  enough : P.Fresh s zeros
+  enough = omega (arith, length-replicate {A = ℕ} (used (jobOf s)) 0)
 
   names-low : Low (jobOf s) (schedulePart i)
   unfolding jobOf
   names-low = low-all (jobOf s) (schedulePart i) (accepted-input i e .low)
 
-  question-told : (k : ℕ) → k < length (jobOf s .questions) → lineOf s (lastTable i) k ≡ answerLine (questionOf s k .worker) (questionOf s k .claim) (readingOf (markOf (verdict (programOf (jobOf s)) (questionOf s k .claim))))
+  shows : Shows (jobOf s) (lastTable (jobOf s) (schedulePart i))
   unfolding lastTable
-  question-told k h =
-      ap (λ (x : ℕ). answerLine (questionOf s k .worker) (questionOf s k .claim) (readingOf (255 + x)))
-      (answer-shown s (accepted-input i e .job) (replicate (used (jobOf s)) 0) zeros-enough (schedulePart i) names-low k (omega (arith, questions-count s)))
-
-  claim-told : (c : ℕ) → c < jobOf s .claims → Asked (jobOf s) c → mark (lastTable i) c ≡ markOf (verdict (programOf (jobOf s)) c)
-  unfolding lastTable
-  claim-told = claim-shown s (accepted-input i e .job) (replicate (used (jobOf s)) 0) zeros-enough (schedulePart i) names-low
-
-  claim-untold : (c : ℕ) → c < jobOf s .claims → (Asked (jobOf s) c → ⊥) → mark (lastTable i) c ≡ 0
-  unfolding lastTable
-  claim-untold = claim-fresh s (accepted-input i e .job) (replicate (used (jobOf s)) 0) zeros-enough (schedulePart i) names-low
-
-  none-open : (c : ℕ) → c < jobOf s .claims → readingOf (mark (lastTable i) c) ≡ Open → ⊥
-  unfolding lastTable
-  none-open = claim-settled s (accepted-input i e .job) (replicate (used (jobOf s)) 0) zeros-enough (schedulePart i) names-low
+  shows =
+      let good = accepted-input i e .job in
+      let ws = schedulePart i in
+      record {
+        questions = lines-shown (jobOf s) _ (jobOf s .questions) 0 (λ k h. let z : 0 + k ≡ k = omega arith in ap (λ (x : ℕ). getD (runTable (jobOf s) (startWords (jobOf s) zeros) (played (jobOf s) (startWords (jobOf s) zeros) ws)) (answerWord (jobOf s) x) 0) z ∙ answer-shown s good zeros enough ws names-low k (omega (arith, questions-count s)));
+        claims = λ c h a. claim-line c (ap (λ (m : ℕ). nameOf (readingOf m)) (claim-shown s good zeros enough ws names-low c h a) ∙ named (verdict (programOf (jobOf s)) c));
+        others = λ c h n. claim-line c (named-unopened _ (claim-fresh s good zeros enough ws names-low c h n));
+        settled = claim-settled s good zeros enough ws names-low;
+      }
 
 pub told : (i : List ℕ) → Told i
-told i =
-    record {
-      some = listing-some i;
-      questions = question-told i;
-      settled = none-open i;
-      claims = λ e c h a. ap (λ (m : ℕ). decimal c ++ (blank ∷ []) ++ nameOf (readingOf m) ++ (lineEnd ∷ [])) (claim-told i e c h a);
-      others =
-          λ e c h n. ap (λ (x : List ℕ). decimal c ++ (blank ∷ []) ++ x ++ (lineEnd ∷ [])) (named-unopened (mark (lastTable i) c) (claim-untold i e c h n));
-    }
+told i = record { some = listing-some i; shows = shows i }

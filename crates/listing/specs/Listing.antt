@@ -10,7 +10,9 @@
 --   countText n        a count of the tally
 --   heading word n     a heading: its word and a count
 --   textOf j t ns      the text of job j whose table is t at the end, with the tally ns
---   played s ws        the turns of a listing: those of the schedule, then those that finish
+--   played j t ws      the turns of a listing from table t: those of the schedule ws, then those that finish
+--   firstTable j, lastTable j ws   the table at the start, all its words used, and at the end
+--   listed j ws        the text of an accepted job and schedule
 --   listing i          the whole text
 --   roomLength, roomBytes   the text's length, and the bytes of the buffer that it was written into
 use Prim.Native.Nat.{ℕ, _+_, _*_}
@@ -99,10 +101,14 @@ textOf j t ns =
 unfoldable pub played : Job → List ℕ → List ℕ → List ℕ
 played j t ws = ws ++ finishTurns (most j) j (runTable j t ws) 0
 
+abbrev pub firstTable : Job → List ℕ
+firstTable j = startWords j (replicate (used j) 0)
+
+unfoldable pub lastTable : Job → List ℕ → List ℕ
+lastTable j ws = runTable j (firstTable j) (played j (firstTable j) ws)
+
 unfoldable pub listed : Job → List ℕ → List ℕ
-listed j ws =
-    let t = startWords j (replicate (used j) 0) in
-    textOf j (runTable j t (played j t ws)) (tally (runKinds j t (played j t ws)))
+listed j ws = textOf j (lastTable j ws) (tally (runKinds j (firstTable j) (played j (firstTable j) ws)))
 
 unfoldable pub listingIf : Check → List ℕ → List ℕ
 listingIf Accepted i = listed (jobOf (jobPart i)) (schedulePart i)

@@ -1,57 +1,51 @@
 -- What the lines of a listing show: the well-founded model of the whole job.
---   lastTable i      the table at the end of the listing of i
---   valueName j c    the name of claim c's verdict in the model of job j
---   Told i           what holds of the listing of i, whatever its schedule
+--   wordOf v           the name of a verdict
+--   verdictLine j q    the line of question q that has its claim's verdict; valueLine j c   the line of claim c that has its verdict
+--   unopenedLine c     the line of a claim that has none
+--   Told i             what holds of the listing of input i, whatever its schedule
 use Prim.Native.Nat.{ℕ, _<_, _≤_}
 use mathlib.Core.Path.{_≡_}
-use mathlib.Core.List.{List, [], _∷_, _++_}
-use lib.ListN.{length, replicate}
+use mathlib.Core.List.{List, [], _∷_, _++_, flatMap}
+use lib.ListN.{length}
 use Rattle.job.specs.Job.{Job}
-use Rattle.job.specs.Format.{rules, literals, questionAt, jobOf}
+use Rattle.job.specs.Format.{jobOf}
 use Rattle.job.specs.declared.Check.the-variants.{Accepted}
 use Rattle.job.specs.declared.Question.{Question}
-use Rattle.model.specs.Model.{programOf, verdict}
-use Rattle.table.specs.Layout.{used, mark, markOf}
-use Rattle.table.specs.Start.{startWords}
+use Rattle.model.specs.Model.{Verdict, True, False, Undefined, programOf, verdict}
+use Rattle.table.specs.Layout.{mark}
 use Rattle.table.specs.Reading.{readingOf}
 use Rattle.table.specs.declared.Reading.the-variants.{Open}
-use Rattle.turns.specs.Turn.{runTable}
 use Rattle.turns.specs.Promise.{Asked}
-use Rattle.listing.specs.Text.{decimal, blank, lineEnd, nameOf, unopenedName}
-use Rattle.listing.specs.Listing.{jobPart, schedulePart, listingCheck, played, claimLine, lineOf, listing}
+use Rattle.listing.specs.Text.{decimal, blank, lineEnd, trueName, falseName, undefinedName, unopenedName}
+use Rattle.listing.specs.Listing.{jobPart, schedulePart, listingCheck, claimLine, questionLines, lastTable, listing}
 
-unfoldable pub lastTable : List ℕ → List ℕ
-lastTable i =
-    let j = jobOf (jobPart i) in
-    let t = startWords j (replicate (used j) 0) in
-    runTable j t (played j t (schedulePart i))
+abbrev pub wordOf : Verdict → List ℕ
+wordOf True = trueName
+wordOf False = falseName
+wordOf Undefined = undefinedName
 
-abbrev pub valueName : Job → ℕ → List ℕ
-valueName j c = nameOf (readingOf (markOf (verdict (programOf j) c)))
+abbrev pub verdictLine : Job → Question → List ℕ
+verdictLine j q =
+    decimal (q .worker) ++ (blank ∷ []) ++ decimal (q .claim) ++ (blank ∷ []) ++ wordOf (verdict (programOf j) (q .claim)) ++ (lineEnd ∷ [])
 
-abbrev pub questionOf : List ℕ → ℕ → Question
-questionOf s k = questionAt s (rules s) (literals s) k
+abbrev pub valueLine : Job → ℕ → List ℕ
+valueLine j c = decimal c ++ (blank ∷ []) ++ wordOf (verdict (programOf j) c) ++ (lineEnd ∷ [])
+
+abbrev pub unopenedLine : ℕ → List ℕ
+unopenedLine c = decimal c ++ (blank ∷ []) ++ unopenedName ++ (lineEnd ∷ [])
+
+-- of an accepted job j whose table is t at the end
+pub record Shows (j : Job) (t : List ℕ) : Type 0 where
+  -- every question line has a value: its claim's verdict
+  pub questions : questionLines j t 0 (j .questions) ≡ flatMap (verdictLine j) (j .questions)
+  -- the line of a claim that a question names or leads to has its verdict
+  pub claims : (c : ℕ) → c < j .claims → Asked j c → claimLine t c ≡ valueLine j c
+  -- every other claim's line says `unopened`
+  pub others : (c : ℕ) → c < j .claims → (Asked j c → ⊥) → claimLine t c ≡ unopenedLine c
+  -- no claim is open at the end: each is complete or fresh
+  pub settled : (c : ℕ) → c < j .claims → readingOf (mark t c) ≡ Open → ⊥
 
 pub record Told (i : List ℕ) : Type 0 where
   -- the text is never empty
   pub some : 1 ≤ length (listing i)
-  -- every question line has a value: its claim's verdict
-  pub questions :
-      Accepted ≡ listingCheck i → (k : ℕ) → k < length (jobOf (jobPart i) .questions)
-      → lineOf (jobPart i) (lastTable i) k
-      ≡ decimal (questionOf (jobPart i) k .worker)
-      ++ (blank ∷ [])
-      ++ decimal (questionOf (jobPart i) k .claim)
-      ++ (blank ∷ [])
-      ++ valueName (jobOf (jobPart i)) (questionOf (jobPart i) k .claim)
-      ++ (lineEnd ∷ [])
-  -- the line of a claim that a question names or leads to has its verdict
-  pub claims :
-      Accepted ≡ listingCheck i → (c : ℕ) → c < jobOf (jobPart i) .claims → Asked (jobOf (jobPart i)) c
-      → claimLine (lastTable i) c ≡ decimal c ++ (blank ∷ []) ++ valueName (jobOf (jobPart i)) c ++ (lineEnd ∷ [])
-  -- every other claim's line says `unopened`
-  pub others :
-      Accepted ≡ listingCheck i → (c : ℕ) → c < jobOf (jobPart i) .claims → (Asked (jobOf (jobPart i)) c → ⊥)
-      → claimLine (lastTable i) c ≡ decimal c ++ (blank ∷ []) ++ unopenedName ++ (lineEnd ∷ [])
-  -- no claim is open at the end: each is complete or fresh
-  pub settled : Accepted ≡ listingCheck i → (c : ℕ) → c < jobOf (jobPart i) .claims → readingOf (mark (lastTable i) c) ≡ Open → ⊥
+  pub shows : Accepted ≡ listingCheck i → Shows (jobOf (jobPart i)) (lastTable (jobOf (jobPart i)) (schedulePart i))
