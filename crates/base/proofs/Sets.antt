@@ -8,7 +8,7 @@ use native.Mathlib.Nat.{add-zero}
 use native.Mathlib.Numerals.{add-one}
 use native.Mathlib.Decide.{decLt}
 use lib.Dec.{T}
-use Rattle.base.specs.Sets.{Claims, _⊆_, nothing, one, count, iterate}
+use Rattle.base.specs.Sets.{Claims, _⊆_, one, count, iterate}
 
 one-le : (b : Bool) → one b ≤ 1
 unfolding one

@@ -9,7 +9,7 @@ use lib.ListN.{length}
 use Rattle.base.specs.Compare.{under, over, notBelow}
 use Rattle.base.proofs.Bools.{neither, or-no}
 use Rattle.base.proofs.Compare.{under-no, under-le, over-no, over-le, notBelow-no, notBelow-lt, differs-no, differs-eq}
-use Rattle.job.specs.Format.{rules, literals, bodyStart, bodyLengthAt}
+use Rattle.job.specs.Format.{rules, literals, bodyStart}
 use Rattle.job.specs.Checks.{longBody, checkLength, checkTotal, checkCounts, checkOffsets, checkHeads, checkBodies, checkLiterals, checkQuestions, checkHeader, checkParts, checkJob}
 use Rattle.job.specs.Accepted.{Sized, WellFormed}
 use Rattle.job.specs.declared.Check.the-variants.{Accepted}

@@ -1,6 +1,6 @@
 -- Laws of literals as 16-bit fields. Assumes nothing.
-use Prim.Native.Nat.{ℕ, _+_, _-_, _%_, _<_, _≤_}
-use mathlib.Core.Path.{_≡_, sym, _∙_, ap}
+use Prim.Native.Nat.{ℕ, _-_, _<_, _≤_}
+use mathlib.Core.Path.{_≡_}
 use borrow.Author.Tests.{lt-ltb, le-ltb}
 use Rattle.job.specs.Format.{literalOf}
 use Rattle.job.specs.declared.Literal.the-variants.{Plain, Negated}

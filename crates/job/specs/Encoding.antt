@@ -4,7 +4,7 @@
 --   encode j                   the bytes of job j
 --   Valid j                    j is within the limits, its heads never fall, all its numbers are below their counts
 --   Reading                    accepted exactly where the bytes are the encoding of a valid job; and reading an encoding gives the job back
-use Prim.Native.Nat.{ℕ, _+_, _*_, _/_, _%_, _<_, _≤_}
+use Prim.Native.Nat.{ℕ, _+_, _/_, _%_, _<_, _≤_}
 use mathlib.Core.List.{List, [], _∷_, _++_, flatMap, List·Memᴰ}
 use mathlib.Core.Path.{_≡_}
 use mathlib.Core.Logic.{_↔_}

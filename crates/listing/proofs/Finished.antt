@@ -13,7 +13,7 @@ use mathlib.Core.List.{List, [], _∷_, _++_, append-assoc, List·Memᴰ·not-ni
 use native.Mathlib.Omega.{arith}
 use native.Mathlib.Nat.{suc-mul, eq-or-lt-of-le}
 use borrow.Author.Tests.{eq-eqb, ne-eqb, le-leb, leb-true}
-use lib.ListN.{length, getD}
+use lib.ListN.{length}
 use Rattle.base.specs.Choose.{pick}
 use Rattle.base.specs.Span.{span}
 use Rattle.base.specs.Lists.{upto, every}

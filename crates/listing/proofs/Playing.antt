@@ -2,18 +2,20 @@
 --   play-ready    the table after the schedule is in range
 --   few-counts    the counts after the schedule are small
 --   play-done     both parts together are the turns played
-use Prim.Native.Nat.{ℕ, _≤_, _<_}
+--   counts-eight  their tally has eight counts
+use Prim.Native.Nat.{ℕ, _+_, _≤_, _<_}
 use mathlib.Core.Path.{_≡_, refl, sym, _∙_, ap, ap₂, subst}
-use mathlib.Core.List.{List, [], _∷_, _++_}
+use mathlib.Core.List.{List, [], _∷_}
 use native.Mathlib.Omega.{arith}
-use lib.ListN.{length, getD}
+use lib.ListN.{length, getD, set, replicate, length-set}
 use Rattle.job.specs.Job.{Job}
 use Rattle.job.specs.Accepted.{WellFormed}
 use Rattle.job.specs.Format.{workers, jobOf}
 use Rattle.table.specs.Layout.{used}
 use Rattle.table.specs.Ranges.{InRange}
 use Rattle.table.specs.Start.{startWords}
-use Rattle.turns.specs.Turn.{turn, runTable, runKinds}
+use Rattle.turns.specs.Turn.{kindNumber, turn, runTable, runKinds}
+use Rattle.turns.specs.declared.Kind.{Kind}
 use Rattle.turns.specs.Calls.{counted, tally}
 use Rattle.turns.proofs.Jobs.{job-ok}
 use Rattle.turns.proofs.Starting.{start-started, started-range}
@@ -66,3 +68,15 @@ module _ (j : Job) (ws : List ℕ) where
       let c = n ∙ ap (λ (y : List ℕ). tally (runKinds j y ws)) e in
       let d = m ∙ ap (λ (y : List ℕ). runTable j y ws) e in
       (p ∙ ap₂ (λ (y z : List ℕ). counted y (runKinds j z (last z))) c d ∙ tallies u₀, q ∙ ap (λ (z : List ℕ). runTable j z (last z)) d ∙ tables u₀)
+
+-- a tally has eight counts
+counted-length : (ns : List ℕ) (ks : List Kind) → length (counted ns ks) ≡ length ns
+unfolding counted
+counted-length ns [] = refl
+counted-length ns (k ∷ ks) =
+    counted-length (set ns (kindNumber k) (getD ns (kindNumber k) 0 + 1)) ks
+    ∙ length-set ns (kindNumber k) (getD ns (kindNumber k) 0 + 1)
+
+pub counts-eight : (j : Job) (ws t : List ℕ) {ns : List ℕ} → ns ≡ tally (runKinds j (startWords j t) (played j (startWords j t) ws)) → length ns ≡ 8
+unfolding tally
+counts-eight j ws t e = ap length e ∙ counted-length (replicate 8 0) (runKinds j (startWords j t) (played j (startWords j t) ws))

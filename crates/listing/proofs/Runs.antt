@@ -5,14 +5,13 @@
 --   claims-none, claims-more         lines of claims: none yet; one more
 --   counts-none, -more, -whole       counts of the tally: none yet; one more; the whole line
 --   firstLines s t k, first-none, -more, -whole   the lines of the first k questions: none yet; one more; all
---   tally-length                     a tally has eight counts
 use Prim.Native.Nat.{ℕ, zero, suc, _+_, _*_, _≤_, _<_}
 use mathlib.Core.Path.{_≡_, refl, sym, _∙_, ap, ap₂}
 use mathlib.Core.List.{List, [], _∷_, _++_, flatMap, append-assoc, append-nil}
 use native.Mathlib.Nat.{zero-add, add-zero}
 use native.Mathlib.Numerals.{add-one}
 use native.Mathlib.Omega.{arith}
-use lib.ListN.{length, set, take, getD, replicate, length-set, length-append}
+use lib.ListN.{length, take, getD, length-append}
 use lib.Seq.{take-length}
 use Rattle.base.specs.Span.{span}
 use Rattle.base.specs.Lists.{upto}
@@ -25,8 +24,6 @@ use Rattle.job.specs.declared.Question.{Question}
 use Rattle.table.specs.declared.Reading.{Reading}
 use Rattle.table.specs.Reading.{readingOf}
 use Rattle.table.specs.Layout.{used, mark, answerWord}
-use Rattle.turns.specs.Turn.{kindNumber}
-use Rattle.turns.specs.declared.Kind.{Kind}
 use Rattle.turns.specs.Calls.{counted, tally}
 use Rattle.listing.specs.Text.{Put, decimal, blank, lineEnd, refusedWord, tallyWord, nameOf}
 use Rattle.listing.specs.Listing.{refusalLine, claimLine, countText, tallyLine, answerLine, questionLine, questionLines, lineOf}
@@ -256,15 +253,3 @@ module _ (s t : List ℕ) where
       → Put buf at (questionLines (jobOf s) t 0 (jobOf s .questions)) out r
   unfolding jobOf
   first-whole e p = rw e at p
-
--- a tally has eight counts
-counted-length : (ns : List ℕ) (ks : List Kind) → length (counted ns ks) ≡ length ns
-unfolding counted
-counted-length ns [] = refl
-counted-length ns (k ∷ ks) =
-    counted-length (set ns (kindNumber k) (getD ns (kindNumber k) 0 + 1)) ks
-    ∙ length-set ns (kindNumber k) (getD ns (kindNumber k) 0 + 1)
-
-pub tally-length : {ns : List ℕ} (ks : List Kind) → ns ≡ tally ks → length ns ≡ 8
-unfolding tally
-tally-length ks e = ap length e ∙ counted-length (replicate 8 0) ks

@@ -45,7 +45,7 @@ use Rattle.listing.specs.Finish.{finishTurns, most}
 use Rattle.listing.specs.Listing.{jobPart, schedulePart, listingCheck, refusalLine, claimLine, questionLines, tallyLine, heading, textOf, questionLine, played, lastTable, listed, listingIf, listing}
 use Rattle.listing.specs.Told.{wordOf, verdictLine, Shows, Told}
 use Rattle.listing.proofs.Finished.{all-each, low-finish, finished-in}
-use Rattle.listing.proofs.Accepting.{AcceptedInput, accepted-input}
+use Rattle.listing.proofs.Accepting.{accepted-input}
 
 -- question i of a list, among those of its worker
 record AtPlace (ps : List ℕ) (p : ℕ) : Type 0 where

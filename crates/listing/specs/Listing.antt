@@ -15,7 +15,7 @@
 --   listed j ws        the text of an accepted job and schedule
 --   listing i          the whole text
 --   roomLength, roomBytes   the text's length, and the bytes of the buffer that it was written into
-use Prim.Native.Nat.{ℕ, _+_, _*_}
+use Prim.Native.Nat.{ℕ, _+_}
 use mathlib.Core.List.{List, [], _∷_, _++_, flatMap}
 use lib.ListN.{length, getD, take, drop, replicate}
 use Rattle.base.specs.Choose.{pick}

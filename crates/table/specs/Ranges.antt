@@ -4,7 +4,7 @@
 --   checkWords j t     row 10: the first word that is not as it should be
 --   checkTable j t     both
 --   InRange j t        the facts of an accepted table (proofs/Ranges: accepted exactly where they hold)
-use Prim.Native.Nat.{ℕ, zero, suc, _+_, _*_, _<_, _≤_}
+use Prim.Native.Nat.{ℕ, zero, suc, _<_, _≤_}
 use mathlib.Core.Bool.{Bool, not, _&&_, _||_}
 use mathlib.Core.List.{List}
 use mathlib.Core.Path.{_≡_}

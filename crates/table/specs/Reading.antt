@@ -2,7 +2,7 @@
 --   readingOf m     what a mark shows
 --   readingValue r  the value's number 1 to 3, or 0 where there is none
 use Prim.Native.Nat.{ℕ}
-use lib.Dec.{leb, eqb}
+use lib.Dec.{eqb}
 use Rattle.base.specs.Choose.{pick}
 use Rattle.table.specs.declared.Reading.{Reading}
 use Rattle.table.specs.declared.Reading.the-variants.{Fresh, Open, True, False, Undefined}

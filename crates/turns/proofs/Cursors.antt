@@ -9,13 +9,13 @@
 use Prim.Native.Nat.{ℕ, zero, suc, _+_, _*_, _-_, _≤_, _<_}
 use mathlib.Core.Path.{_≡_, refl, sym, _∙_, ap, ap₂, subst, subst⁻¹}
 use mathlib.Core.Bool.{Bool, true, false, not}
-use mathlib.Core.List.{List, map}
+use mathlib.Core.List.{List}
 use mathlib.Core.Logic.{_⊎_, by-cases}
 use native.Mathlib.Omega.{arith}
 use native.Mathlib.Decide.{ℕ-discrete}
 use borrow.Author.Tests.{eq-eqb, ne-eqb, le-leb, lt-leb}
 use lib.Dec.{T, leb, eqb}
-use lib.ListN.{length, getD, set, length-set, length-map}
+use lib.ListN.{length, getD, set, length-set}
 use lib.Seq.{getD-set-same, getD-set-other}
 use Rattle.base.specs.Choose.{pick}
 use Rattle.base.specs.Span.{span}
@@ -23,7 +23,7 @@ use Rattle.base.specs.Lists.{keep}
 use Rattle.base.proofs.Choose.{pick-true, pick-false}
 use Rattle.base.proofs.Lists.{keep-same}
 use Rattle.base.proofs.Sets.{count-le, count-mono, count-less}
-use Rattle.base.proofs.Span.{map-span, getD-span}
+use Rattle.base.proofs.Span.{getD-span}
 use Rattle.job.specs.Job.{Job, claimOf, literalsOf}
 use Rattle.job.specs.Format.{claims, rules, literals, workers, literalByte, literalAt, jobOf}
 use Rattle.job.specs.Accepted.{WellFormed}
@@ -36,7 +36,6 @@ use Rattle.table.specs.Ranges.{marked, ClaimInRange, InRange}
 use Rattle.table.proofs.Sizes.{sizes}
 use Rattle.turns.specs.Turn.{Turned, lits, reached, openClaim, markAll, meets, passTurn}
 use Rattle.turns.specs.Ready.{Ready, Made, sizeIn}
-use Rattle.turns.specs.declared.Kind.{Kind}
 use Rattle.turns.specs.declared.Kind.the-variants.{Opened, Waits, Took, Passed}
 use Rattle.turns.proofs.Making.{made-as, made-from}
 use Rattle.turns.proofs.Following.{room, open-owner}

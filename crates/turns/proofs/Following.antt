@@ -12,7 +12,6 @@ use Rattle.base.specs.Choose.{pick}
 use Rattle.job.specs.Job.{Job}
 use Rattle.job.specs.Format.{claims, workers, questions, jobOf}
 use Rattle.table.proofs.Sizes.{words-room}
-use Rattle.job.specs.Accepted.{WellFormed}
 use Rattle.table.specs.Layout.{mark, awaited, answered}
 use Rattle.table.specs.Ranges.{InRange}
 use Rattle.turns.specs.Turn.{meets}

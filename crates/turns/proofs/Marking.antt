@@ -1,13 +1,13 @@
 -- Marks stored at the members of a set, in rising order. Assumes nothing.
-use Prim.Native.Nat.{ℕ, zero, suc, _+_, _*_, _-_, _<_, _≤_}
+use Prim.Native.Nat.{ℕ, _+_, _*_, _-_, _<_, _≤_}
 use mathlib.Core.Path.{_≡_, refl, sym, _∙_, ap}
 use mathlib.Core.Bool.{Bool, true, false}
-use mathlib.Core.List.{List, [], _∷_}
+use mathlib.Core.List.{List}
 use native.Mathlib.Omega.{arith}
 use lib.ListN.{length, getD, set, length-set}
 use lib.Seq.{getD-set-other}
 use Rattle.base.specs.Lists.{upto, keep}
-use Rattle.table.specs.Layout.{markWord, mark}
+use Rattle.table.specs.Layout.{mark}
 use Rattle.turns.specs.Turn.{markAll}
 use Rattle.turns.proofs.Sweeps.{from, keep-next, keep-skip, keep-end}
 

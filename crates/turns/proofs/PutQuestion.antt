@@ -1,8 +1,8 @@
 -- A worker puts its next question: what the code read, and the turn that the definition says. Assumes nothing.
 use Prim.Native.Nat.{ℕ, zero, suc, _+_, _*_, _-_, _<_, _≤_}
-use mathlib.Core.Path.{_≡_, refl, sym, _∙_, ap, ap₂, subst⁻¹}
-use mathlib.Core.Bool.{Bool, true, false, not}
-use mathlib.Core.List.{List, [], _∷_}
+use mathlib.Core.Path.{_≡_, sym, _∙_, ap, ap₂}
+use mathlib.Core.Bool.{true, false}
+use mathlib.Core.List.{List}
 use mathlib.Core.Logic.{by-cases}
 use native.Mathlib.Omega.{arith}
 use native.Mathlib.Decide.{decLt}
@@ -10,26 +10,22 @@ use borrow.Author.Tests.{eq-eqb, ne-eqb, le-leb, lt-leb, lt-ltb, le-ltb}
 use lib.Dec.{T, eqb, ltb, leb}
 use lib.ListN.{length, getD, set}
 use Rattle.base.specs.Choose.{pick}
-use Rattle.base.specs.Sets.{count, Claims}
+use Rattle.base.specs.Sets.{count}
 use Rattle.base.specs.Span.{span}
 use Rattle.base.proofs.Choose.{pick-true, pick-false}
-use Rattle.base.proofs.Sets.{count-less, count-le}
-use Rattle.base.proofs.Bools.{is-not}
 use Rattle.job.specs.Job.{Job}
 use Rattle.job.specs.Format.{claims, workers, rules, literals, questions, questionAt, jobOf}
 use Rattle.job.specs.Accepted.{WellFormed}
 use Rattle.job.specs.declared.Question.{Question}
 use Rattle.job.proofs.Parts.{Asked}
 use Rattle.table.specs.Questions.{askedBy, claimAsked, questionClaim}
-use Rattle.table.specs.Layout.{opened, mark, fresh, complete, answered, awaitedWord, answeredWord, answerWord, valueOf}
+use Rattle.table.specs.Layout.{opened, mark, fresh, complete, answered}
 use Rattle.table.specs.Ranges.{InRange, marked}
 use Rattle.turns.proofs.Making.{made-as}
 use Rattle.turns.proofs.Cursors.{opened-few}
 use Rattle.turns.specs.Turn.{Turned, openClaim, askTurn}
 use Rattle.turns.specs.Ready.{Made, nextQuestion}
-use Rattle.turns.specs.declared.Kind.{Kind}
 use Rattle.turns.specs.declared.Kind.the-variants.{Idle, Opened, Waits, Answered}
-use Rattle.turns.specs.declared.Next.{Next}
 use Rattle.turns.specs.declared.Next.the-variants.{At, Nothing}
 
 -- what a next question says of the worker's questions

@@ -1,7 +1,7 @@
 -- The whole turn from its bullets, by what the code read. Assumes nothing.
 use Prim.Native.Nat.{ℕ, _+_, _*_, _-_, _<_, _≤_}
-use mathlib.Core.Path.{_≡_, refl, sym, _∙_, ap}
-use mathlib.Core.Bool.{Bool, true, false}
+use mathlib.Core.Path.{_≡_, sym, _∙_, ap}
+use mathlib.Core.Bool.{true, false}
 use mathlib.Core.List.{List}
 use native.Mathlib.Omega.{arith}
 use borrow.Author.Tests.{eq-eqb, ne-eqb, le-leb, lt-leb}
@@ -9,9 +9,8 @@ use lib.Dec.{eqb}
 use lib.ListN.{set}
 use Rattle.base.specs.Lists.{upto, keep}
 use Rattle.base.proofs.Choose.{pick-true, pick-false}
-use Rattle.job.specs.Job.{Job}
 use Rattle.job.specs.Format.{claims, jobOf}
-use Rattle.table.specs.Layout.{mark, awaited, owned, complete}
+use Rattle.table.specs.Layout.{mark, awaited, owned}
 use Rattle.turns.specs.Turn.{Turned, newest, askTurn, workTurn, turn}
 use Rattle.turns.specs.Ready.{Made}
 use Rattle.turns.specs.declared.Kind.{Kind}

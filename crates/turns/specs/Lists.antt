@@ -9,8 +9,8 @@
 --   answerOf j es w k  the answer of w's question k: what reading its claim gave when it was answered, as a number 1 to 3
 --   AllAnswered        all questions are answered
 --   Complete t c       reading claim c answers a value
-use Prim.Native.Nat.{ℕ, zero, suc, _+_, _-_, _<_, _≤_}
-use mathlib.Core.Bool.{Bool, true, false, _&&_}
+use Prim.Native.Nat.{ℕ, _+_, _-_, _<_, _≤_}
+use mathlib.Core.Bool.{Bool, _&&_}
 use mathlib.Core.List.{List, [], _∷_, _++_}
 use lib.Dec.{eqb}
 use lib.ListN.{length}

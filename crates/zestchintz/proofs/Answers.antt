@@ -1,7 +1,7 @@
 -- Every answer of the checks fits a code, and is read back from it. Assumes nothing.
 use Prim.Native.Nat.{ℕ, zero, suc, _+_, _*_, _-_, _/_, _%_, _<_, _≤_}
-use mathlib.Core.Path.{_≡_, refl, sym, _∙_, ap}
-use mathlib.Core.Bool.{Bool, true, false, cond}
+use mathlib.Core.Path.{_≡_, refl, sym}
+use mathlib.Core.Bool.{Bool, true, false}
 use mathlib.Core.List.{List}
 use native.Mathlib.Omega.{arith}
 use native.Mathlib.Decide.{ℕ-discrete}
@@ -10,7 +10,7 @@ use borrow.Author.Tests.{lt-ltb, le-ltb, eq-eqb, ne-eqb}
 use lib.Dec.{eqb, ltb}
 use lib.ListN.{length}
 use Rattle.job.specs.Rows.{_⨾_, row, scan}
-use Rattle.job.specs.Format.{claims, rules, literals, questions, ruleByte, literalByte, questionByte}
+use Rattle.job.specs.Format.{claims, rules, literals, ruleByte, literalByte, questionByte}
 use Rattle.job.specs.Checks.{checkLength, checkTotal, checkCounts, checkOffsets, checkHeads, checkBodies, checkLiterals, checkQuestions, checkHeader, checkParts, checkJob}
 use Rattle.job.specs.Accepted.{Sized, WellFormed}
 use Rattle.job.proofs.Rows.{both}

@@ -4,7 +4,7 @@ use native.Mathlib.Omega.{arith}
 use lib.ListN.{length, length-replicate}
 use Rattle.job.specs.Format.{jobOf}
 use Rattle.table.specs.Layout.{used}
-use Rattle.listing.proofs.Runs.{tally-length}
+use Rattle.listing.proofs.Playing.{counts-eight}
 use Rattle.listing.proofs.Page.{listed-by}
 use borrow.Author.Needs.{needs}
 use Rattle.listing.proofs.list.list_on.Statement.{statement}
@@ -22,7 +22,7 @@ put-text-requires c κs =
     let a = c .before .before .before .before .before .before .before .before .before .before .before in
     let p = a .pre in
     let z : length (a .args .table .now) ≡ used (jobOf (a .args .job .now)) = ap length (p .1 .1 .1 .0) ∙ length-replicate _ 0 in
-    (p .0, (omega (arith, z), (tally-length _ (c .before .before .before .before .before .play .ensures .0), p .1 .1 .1 .1)))
+    (p .0, (omega (arith, z), (counts-eight (jobOf (a .args .job .now)) (a .args .named .now) (a .args .table .now) (c .before .before .before .before .before .play .ensures .0), p .1 .1 .1 .1)))
 
 same-length : tie.Need-same-length
 same-length c = search needs
