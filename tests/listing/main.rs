@@ -6,6 +6,8 @@
 mod arguments;
 mod beside;
 mod cost;
+#[path = "../compare/counts.rs"]
+mod counts;
 mod inputs;
 mod program;
 mod totals;
@@ -72,12 +74,8 @@ const MOST_DIFFERENCES: usize = 10;
 
 const THREADS: usize = 2;
 
-/// Runs one part, numbers from..from + count, in threads, and says what it listed.
-fn part(all: &mut Totals, title: &str, from: u64, count: u64, list: impl Fn(&mut Totals, u64) + Sync) {
-    if all.differences >= MOST_DIFFERENCES {
-        return;
-    }
-    let start = Instant::now();
+/// Lists numbers from..from + count in threads.
+fn in_threads(from: u64, count: u64, list: impl Fn(&mut Totals, u64) + Sync) -> Totals {
     let next = AtomicU64::new(from);
     let one_thread = || {
         let mut totals = Totals::default();
@@ -97,6 +95,16 @@ fn part(all: &mut Totals, title: &str, from: u64, count: u64, list: impl Fn(&mut
             totals.add(&thread.join().expect("a thread ends by itself"));
         }
     });
+    totals
+}
+
+/// Runs one part and says what it listed.
+fn part(all: &mut Totals, title: &str, from: u64, count: u64, list: impl Fn(&mut Totals, u64) + Sync) {
+    if all.differences >= MOST_DIFFERENCES {
+        return;
+    }
+    let start = Instant::now();
+    let totals = in_threads(from, count, list);
     println!(
         "{title}: {} inputs, {} accepted, {} left out, {} turns, {} differences, {:.1} s",
         totals.inputs,

@@ -1,6 +1,7 @@
 //! What was listed and what differs.
 
-const KINDS: [&str; 8] = ["idle", "woke", "opened", "waits", "took", "passed", "completed", "answered"];
+use crate::counts::{add, listed, unmet, KINDS};
+
 const VALUES: [&str; 4] = ["true", "false", "undefined", "unopened"];
 /// The numbers of refusals that a listing can show.
 const NUMBERS: [&str; 9] = ["1", "2", "3", "4", "5", "6", "7", "8", "11"];
@@ -93,19 +94,4 @@ impl Totals {
             self.differences
         );
     }
-}
-
-fn add<N: Copy + std::ops::AddAssign>(sums: &mut [N], counts: &[N]) {
-    for (sum, &count) in sums.iter_mut().zip(counts) {
-        *sum += count;
-    }
-}
-
-fn listed<N: std::fmt::Display>(names: &[&str], counts: &[N]) -> String {
-    let each: Vec<String> = names.iter().zip(counts).map(|(name, count)| format!("{name} {count}")).collect();
-    each.join(", ")
-}
-
-fn unmet(names: &[&str], counts: &[usize]) -> Vec<String> {
-    names.iter().zip(counts).filter(|(_, &count)| count == 0).map(|(name, _)| name.to_string()).collect()
 }

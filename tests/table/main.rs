@@ -6,6 +6,8 @@
 mod arguments;
 mod beside;
 mod calls;
+#[path = "../compare/counts.rs"]
+mod counts;
 mod lengths;
 mod lent;
 mod library;

@@ -3,11 +3,11 @@
 use oracle::turns::Layout;
 
 use crate::calls::{Call, Given};
+use crate::counts::{add, listed, unmet, KINDS};
 
 /// At most this many differences are printed.
 const PRINTED: usize = 20;
 
-const KINDS: [&str; 8] = ["idle", "woke", "opened", "waits", "took", "passed", "completed", "answered"];
 const READINGS: [&str; 5] = ["fresh", "true", "false", "undefined", "open"];
 const PARTS: [&str; 8] =
     ["header", "opened count", "mark", "cursor", "opening number", "awaited", "answered", "question"];
@@ -114,19 +114,4 @@ impl Totals {
             self.differences
         );
     }
-}
-
-fn add<N: Copy + std::ops::AddAssign>(sums: &mut [N], counts: &[N]) {
-    for (sum, &count) in sums.iter_mut().zip(counts) {
-        *sum += count;
-    }
-}
-
-fn listed<N: std::fmt::Display>(names: &[&str], counts: &[N]) -> String {
-    let each: Vec<String> = names.iter().zip(counts).map(|(name, count)| format!("{name} {count}")).collect();
-    each.join(", ")
-}
-
-fn unmet(names: &[&str], counts: &[usize]) -> Vec<String> {
-    names.iter().zip(counts).filter(|(_, &count)| count == 0).map(|(name, _)| name.to_string()).collect()
 }
