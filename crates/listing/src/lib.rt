@@ -1,10 +1,10 @@
 // The listing: from the input bytes to the bytes of the text.
-pub mod finish;
-pub mod input;
-pub mod lines;
+mod finish;
+mod input;
+mod lines;
 pub mod list;
-pub mod play;
-pub mod text;
+mod play;
+mod text;
 
 use job::Check;
 
