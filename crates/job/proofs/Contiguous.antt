@@ -29,7 +29,7 @@ literalsOf-append c [] y = refl
 literalsOf-append c (r ∷ x) y = rw (literalsOf-append c x y, append-assoc)
 
 -- x below y, equal to it or above it
-three : (x y : ℕ) {C : Type 0} → (x < y → C) → (x ≡ y → C) → (y < x → C) → C
+pub three : (x y : ℕ) {C : Type 0} → (x < y → C) → (x ≡ y → C) → (y < x → C) → C
 three x y {C} p q r = go (decLt x y) (decLt y x)
   where
     go : Dec (x < y) → Dec (y < x) → C
@@ -44,11 +44,11 @@ below-all s c zero h = refl
 below-all s c (suc i) h = rw (under-yes _ _ (h i (omega arith)), below-all s c i (λ j l. h j (omega arith)))
 
 -- one rule more for the literals below a claim
-takes : (s : List ℕ) (c i : ℕ) → headAt s i < c → literalsBelow s c (suc i) ≡ literalsBelow s c i + bodyLengthAt s i
+pub takes : (s : List ℕ) (c i : ℕ) → headAt s i < c → literalsBelow s c (suc i) ≡ literalsBelow s c i + bodyLengthAt s i
 unfolding literalsBelow
 takes s c i h = rw (under-yes _ _ h)
 
-skips : (s : List ℕ) (c i : ℕ) → c ≤ headAt s i → literalsBelow s c (suc i) ≡ literalsBelow s c i
+pub skips : (s : List ℕ) (c i : ℕ) → c ≤ headAt s i → literalsBelow s c (suc i) ≡ literalsBelow s c i
 unfolding literalsBelow
 skips s c i h = rw (under-no _ _ h) (omega arith)
 
@@ -61,7 +61,7 @@ below-most s c (suc i) = grown (under (headAt s i) c) (below-most s c i)
     grown true h = omega arith
     grown false h = omega arith
 
-below-rises : (s : List ℕ) (c i : ℕ) → literalsBelow s c i ≤ literalsBelow s (c + 1) i
+pub below-rises : (s : List ℕ) (c i : ℕ) → literalsBelow s c i ≤ literalsBelow s (c + 1) i
 unfolding literalsBelow
 below-rises s c zero = omega arith
 below-rises s c (suc i) =

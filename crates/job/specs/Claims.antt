@@ -1,19 +1,25 @@
 -- One claim's literals. Heads never fall from rule to rule, so they stand together: a contiguous part of the job's literals.
 --   literalsBelow s c m   the literals of those of m rules whose head is below c
 --   claimStart s c        where c's literals start among the job's, and those of c - 1 end
---   Index s index         the index of claims: entry c is where c's literals start; the one past the last claim is where they end
+--   Starts s index        entry c of an index is where c's literals start; the one past the last claim is where they end
+--   boundAt index i       the entry of the job's literal i, 4097 + i, says that a rule ends before it
+--   Bounds s index        of the first m rules these are right, and all other entries say that none does
+--   Index s index         the index: both, of all rules
+--   endIn index i         the first place past literal i that a rule ends before, by the index: where the literal's rule ends
 --   ClaimLiterals s c     the literals of c, over its rules in file order, are the part from claimStart s c to claimStart s (c + 1)
 --   cursorAt s c n        the cursor over claim c's literals that has passed n of them
---   moved c               the cursor past the current literal
-use Prim.Native.Nat.{ℕ, zero, suc, _+_, _-_, _≤_}
+--   moved c               the cursor past the current literal; pastRule index c   the one past that literal's rule
+use Prim.Native.Nat.{ℕ, zero, suc, _+_, _-_, _≤_, _<_}
 use mathlib.Core.List.{List}
 use mathlib.Core.Path.{_≡_}
-use mathlib.Core.Bool.{cond}
+use mathlib.Core.Bool.{Bool, true, false, not, cond}
+use lib.Dec.{eqb}
 use lib.ListN.{length, getD}
+use Rattle.base.specs.Choose.{pick}
 use Rattle.base.specs.Compare.{under}
 use Rattle.base.specs.Span.{span}
-use Rattle.job.specs.Job.{literalsOf}
-use Rattle.job.specs.Format.{claims, rules, literals, headAt, bodyLengthAt, literalAt, jobOf}
+use Rattle.job.specs.Job.{literalsOf, mostLiterals}
+use Rattle.job.specs.Format.{claims, rules, literals, headAt, bodyLengthAt, bodyStart, literalAt, jobOf}
 use Rattle.job.specs.declared.Cursor.{Cursor}
 
 unfoldable pub literalsBelow : List ℕ → ℕ → ℕ → ℕ
@@ -23,8 +29,27 @@ literalsBelow s c (suc i) = literalsBelow s c i + cond (under (headAt s i) c) (b
 abbrev pub claimStart : List ℕ → ℕ → ℕ
 claimStart s c = literalsBelow s c (rules s)
 
-abbrev pub Index : List ℕ → List ℕ → Type 0
-Index s index = (c : ℕ) → c ≤ claims s → getD index c 0 ≡ claimStart s c
+abbrev pub Starts : List ℕ → List ℕ → Type 0
+Starts s index = (c : ℕ) → c ≤ claims s → getD index c 0 ≡ claimStart s c
+
+abbrev pub boundAt : List ℕ → ℕ → Bool
+boundAt index i = not (eqb (getD index (4097 + i) 0) 0)
+
+pub record Bounds (s index : List ℕ) (m : ℕ) : Type 0 where
+  pub ends : (r : ℕ) → r < m → boundAt index (bodyStart s (r + 1)) ≡ true
+  pub only : (i : ℕ) → i ≤ mostLiterals → ((r : ℕ) → r < m → bodyStart s (r + 1) ≡ i → ⊥) → boundAt index i ≡ false
+
+pub record Index (s index : List ℕ) : Type 0 where
+  pub starts : Starts s index
+  pub bounds : Bounds s index (rules s)
+
+unfoldable pub endFrom : ℕ → List ℕ → ℕ → ℕ
+unfolding pick
+endFrom zero index i = i
+endFrom (suc n) index i = pick (boundAt index i) i (endFrom n index (i + 1))
+
+abbrev pub endIn : List ℕ → ℕ → ℕ
+endIn index i = endFrom (mostLiterals - i) index (i + 1)
 
 pub record ClaimLiterals (s : List ℕ) (c : ℕ) : Type 0 where
   pub part : literalsOf c (jobOf s .rules) ≡ span (literalAt s (rules s)) (claimStart s c) (claimStart s (c + 1) - claimStart s c)
@@ -37,3 +62,6 @@ cursorAt s c n = record { at = claimStart s c + n; end = claimStart s (c + 1) }
 
 abbrev pub moved : Cursor → Cursor
 moved c = record { at = c .at + 1; end = c .end }
+
+abbrev pub pastRule : List ℕ → Cursor → Cursor
+pastRule index c = record { at = endIn index (c .at); end = c .end }

@@ -6,13 +6,15 @@
 --   Job               claims A, workers T, rules in file order, questions in file order
 --   literalCount j    L: the literals of all bodies
 --   literalsOf c rs   the literals of claim c over its rules in file order
+--   ruleEnd c rs k    where the rule of literal k of these ends among them
 --   mostClaims, ..    the limits
 -- A claim is a ground atom; a job's rules are a ground normal logic program.
-use Prim.Native.Nat.{ℕ, _+_}
+use Prim.Native.Nat.{ℕ, _+_, _-_}
 use mathlib.Core.List.{List, [], _∷_, _++_}
 use mathlib.Core.Bool.{cond}
-use lib.Dec.{eqb}
+use lib.Dec.{eqb, ltb}
 use lib.ListN.{length}
+use Rattle.base.specs.Choose.{pick}
 use Rattle.job.specs.declared.Literal.{Literal}
 use Rattle.job.specs.declared.Literal.the-variants.{Plain, Negated}
 use Rattle.job.specs.declared.Question.{Question}
@@ -41,6 +43,13 @@ literalCount j = bodyCount (j .rules)
 unfoldable pub literalsOf : ℕ → List Rule → List Literal
 literalsOf c [] = []
 literalsOf c (r ∷ rs) = cond (eqb (r .head) c) (r .body) [] ++ literalsOf c rs
+
+unfoldable pub ruleEnd : ℕ → List Rule → ℕ → ℕ
+unfolding pick
+ruleEnd c [] k = 0
+ruleEnd c (r ∷ rs) k =
+    let n = length (cond (eqb (r .head) c) (r .body) []) in
+    pick (ltb k n) n (n + ruleEnd c rs (k - n))
 
 -- "A at most 4,096, M 6,144, L 16,384, T 1 to 32, Q 1,024."
 abbrev pub mostClaims : ℕ

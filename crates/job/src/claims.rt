@@ -3,15 +3,19 @@ ghost use mathlib.Core.Path.{_≡_};
 ghost use mathlib.Core.Bool.{_&&_};
 ghost use Prim.Native.Nat.{_+_, _<_, _≤_};
 ghost use lib.Dec.{leb};
-ghost use lib.ListN.{length, getD};
+ghost use lib.ListN.{length, getD, replicate};
 ghost use Rattle.base.specs.Compare.{under};
 ghost use Rattle.job.specs.Bytes.{Number};
 ghost use Rattle.job.specs.Accepted.{WellFormed};
 ghost use Rattle.job.specs.Format.{rules as rulesOf, ruleByte, headAt, literalByte, literalAt};
-ghost use Rattle.job.specs.Claims.{Index, moved};
+ghost use Rattle.job.specs.Claims.{Index, boundAt, endIn, moved, pastRule};
+use crate::ClaimIndex;
 use crate::Cursor;
 use crate::Literal;
 use crate::format;
+
+// The index has a field a claim first, and then one a literal.
+const BOUNDS_AT: usize = 4097;
 
 // Whether there is a rule i and its head is below the claim.
 fn head_below(job: &[u8], rules: usize, i: usize, claim: usize) -> bool
@@ -25,45 +29,69 @@ fn head_below(job: &[u8], rules: usize, i: usize, claim: usize) -> bool
 }
 
 // An index to be filled.
-fn no_starts() -> [u32; 4097]
-    ensures { λ r. ⌜ length r ≡ 4097 ⌝ }
+fn no_index() -> ClaimIndex
+    ensures { λ r. ⌜ r ≡ replicate 20482 0 ⌝ }
 {
-    [0u32; 4097]
+    [0u16; 20482]
 }
 
-// The index of claims: where each claim's literals start among the job's; past the last claim, where they end.
-// One pass over rules and claims together.
-pub fn index_claims(job: &[u8]) -> [u32; 4097]
+// The index of claims: where each claim's literals start among the job's, past the last claim where they end, and before which literals
+// a rule ends. One pass over rules and claims together.
+pub fn index_claims(job: &[u8]) -> ClaimIndex
     requires { ⌜ WellFormed (now job) ⌝ }
     ensures { λ r. ⌜ Index (now (job .entry)) r ⌝ }
 {
     let claims = format::claim_count(job);
     let rules = format::rule_count(job);
-    let mut index = no_starts();
+    let mut index = no_index();
     let mut i: usize = 0;
     let mut claim: usize = 0;
     let mut passed: usize = 0;
     while claim <= claims {
         if head_below(job, rules, i, claim) {
             passed += format::body_length_at(job, i);
+            index[BOUNDS_AT + passed] = 1;
             i += 1;
         } else {
-            index[claim] = passed as u32;
+            index[claim] = passed as u16;
             claim += 1;
         }
     }
     index
 }
 
-fn wide(x: u32) -> usize
-    ensures { λ r. ⌜ Number r x 4294967296 ⌝ }
+fn wide(x: u16) -> usize
+    ensures { λ r. ⌜ Number r x 65536 ⌝ }
 {
     x as usize
 }
 
+// Whether a rule ends before this literal.
+pub fn bounded(index: &ClaimIndex, at: usize) -> bool
+    requires { ⌜ at ≤ 16384 ⌝ }
+    ensures { λ r. ⌜ r ≡ boundAt (now (index .entry)) at ⌝ }
+{
+    index[BOUNDS_AT + at] != 0
+}
+
+// Where the rule of a literal ends.
+pub fn rule_end(index: &ClaimIndex, at: usize) -> usize
+    requires { ⌜ at < 16384 ⌝ }
+    ensures { λ r. ⌜ (r ≡ endIn (now (index .entry)) at) × (r ≤ 16385) ⌝ }
+{
+    let mut end = at + 1;
+    while end <= 16384 {
+        if bounded(index, end) {
+            return end;
+        }
+        end += 1;
+    }
+    end
+}
+
 impl Cursor {
     // The cursor over a claim's literals that has passed some of them.
-    pub fn over(index: &[u32; 4097], claim: usize, passed: usize) -> Cursor
+    pub fn over(index: &ClaimIndex, claim: usize, passed: usize) -> Cursor
         requires { ⌜ (claim < 4096) × (passed ≤ 16384) ⌝ }
         ensures { λ r. ⌜ r ≡ record { at = getD (now (index .entry)) claim 0 + passed; end = getD (now (index .entry)) (claim + 1) 0 } ⌝ }
     {
@@ -87,6 +115,18 @@ impl Cursor {
     {
         let at = self.at;
         format::literal_at(job, rules, at)
+    }
+
+    // The cursor past the current literal's rule.
+    pub fn past_rule(self, index: &ClaimIndex) -> Cursor
+        requires { ⌜ self .at < 16384 ⌝ }
+        ensures { λ r. ⌜ r ≡ pastRule (now (index .entry)) self ⌝ }
+    {
+        let at = self.at;
+        Cursor {
+            at: rule_end(index, at),
+            end: self.end,
+        }
     }
 
     // The cursor past the current literal.

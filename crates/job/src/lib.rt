@@ -28,3 +28,6 @@ pub struct Cursor {
     pub at: usize,
     pub end: usize,
 }
+
+// The index of a job's claims and rules (claims.rt): a field for each claim and one more, then one for each literal and one more.
+pub type ClaimIndex = [u16; 20482];

@@ -1,7 +1,7 @@
 -- What the lines of a listing show: the well-founded model of the whole job. Assumes nothing.
 --   AtPlace, placed-span   question i stands among its worker's questions
---   named-unopened         a fresh claim is shown as unopened; not-open   a complete one is not shown as open
---   answer-shown, claim-shown, claim-fresh, claim-asked   the words of questions and claims, once all turns are played
+--   named-unopened         a fresh claim is shown as unopened; not-open, fresh-not-open   neither a complete one nor a fresh one is shown as open
+--   answer-shown, claim-shown, literal-shown, claim-fresh, claim-asked   the words of questions and claims, once all turns are played
 --   named, lines-shown     verdicts by their names, and the question lines that show them
 --   told                   specs/Told, of every input
 use Prim.Native.Nat.{ℕ, zero, suc, _+_, _≤_, _<_}
@@ -32,12 +32,14 @@ use Rattle.table.specs.Start.{startWords}
 use Rattle.table.specs.Reading.{readingOf}
 use Rattle.table.specs.declared.Reading.the-variants.{Fresh, Open}
 use Rattle.turns.specs.Turn.{runTable}
+use Rattle.turns.specs.Lists.{Complete}
 use Rattle.turns.specs.Promise as P
 use Rattle.turns.specs.Promise.{Asked}
 use Rattle.turns.proofs.Starting.{start-started}
 use Rattle.turns.proofs.Runs.{Low, Made, made-start, made-run}
-use Rattle.turns.proofs.Promise.{only-led, all-led}
-use Rattle.turns.proofs.Named.{led-asked, asked-led}
+use Rattle.turns.proofs.Promise.{only-led, none-open}
+use Rattle.turns.proofs.Named.{led-asked, stands-behind}
+use Rattle.turns.proofs.Answers.{complete-mark, mark-complete}
 use Rattle.turns.proofs.OnLists.{valid, ok}
 use Rattle.turns.proofs.Histories.{low-append, low-all}
 use Rattle.listing.specs.Text.{decimal, blank, lineEnd, claimsWord, questionsWord, refusedWord, nameOf, unopenedName}
@@ -143,26 +145,57 @@ module _ (s : List ℕ) (e : Accepted ≡ checkJob s) (t : List ℕ) (room : P.F
   unfolding played
   all-answered w h = omega (arith, all-each (jobOf s) u (finished-in s e t room ws low) w h, made .range .answers w h)
 
-  -- the word of question k
-  pub answer-shown : (k : ℕ) → k < questions s → getD u (answerWord (jobOf s) k) 0 ≡ byteOf (verdict (programOf (jobOf s)) (claimAsked (jobOf s .questions) k))
-  unfolding questionClaim askedBy jobOf
-  answer-shown k h =
-      let f : ℕ → Question = questionAt s (rules s) (literals s) in
-      let w : ℕ = f k .worker in
-      let z : 0 + k ≡ k = omega arith in
-      let p = placed-span f (questions s) 0 0 k w h (ap (λ (x : ℕ). f x .worker) z) in
-      let small : w < jobOf s .workers = well-formed s e .asker k h in
-      let here : getD (askedBy (jobOf s) w) (p .at) 0 ≡ k = p .is ∙ z in
-      let said : getD u (answerWord (jobOf s) (getD (askedBy (jobOf s) w) (p .at) 0)) 0 ≡ byteOf (verdict (programOf (jobOf s)) (questionClaim (jobOf s) w (p .at))) =
-      made .verdicts .words w (p .at) small (omega (arith, p .real, all-answered w small)) in
-      ap (λ (x : ℕ). getD u (answerWord (jobOf s) x) 0) (sym here)
-      ∙ said
-      ∙ ap (λ (x : ℕ). byteOf (verdict (programOf (jobOf s)) (claimAsked (jobOf s .questions) x))) here
+  -- question k stands among its worker's
+  module _ (k : ℕ) (h : k < questions s) where
+    abbrev w : ℕ
+    w = questionAt s (rules s) (literals s) k .worker
 
-  pub claim-shown : (c : ℕ) → c < jobOf s .claims → Asked (jobOf s) c → mark u c ≡ markOf (verdict (programOf (jobOf s)) c)
-  claim-shown c h a =
-      made .verdicts .marks c h
-      (all-led (jobOf s) (ok s e) start (start-started (jobOf s) t room) all all-low all-answered c (asked-led (jobOf s) (valid s e) c a) .1)
+    small : w < jobOf s .workers
+    unfolding jobOf
+    small = well-formed s e .asker k h
+
+    place : AtPlace (askedBy (jobOf s) w) k
+    unfolding askedBy jobOf
+    place =
+        let f : ℕ → Question = questionAt s (rules s) (literals s) in
+        let z : 0 + k ≡ k = omega arith in
+        subst (AtPlace (positionsOf (span f 0 (questions s)) 0 w)) z (placed-span f (questions s) 0 0 k w h (ap (λ (x : ℕ). f x .worker) z))
+
+    real : place .at < answered (jobOf s) u w
+    real = omega (arith, place .real, all-answered w small)
+
+    its-claim : questionClaim (jobOf s) w (place .at) ≡ claimAsked (jobOf s .questions) k
+    unfolding questionClaim
+    its-claim = ap (claimAsked (jobOf s .questions)) (place .is)
+
+    -- its word holds its claim's verdict
+    pub answer-shown : getD u (answerWord (jobOf s) k) 0 ≡ byteOf (verdict (programOf (jobOf s)) (claimAsked (jobOf s .questions) k))
+    answer-shown =
+        ap (λ (x : ℕ). getD u (answerWord (jobOf s) x) 0) (sym (place .is))
+        ∙ (made .verdicts .words w (place .at) small real ∙ ap (λ (c : ℕ). byteOf (verdict (programOf (jobOf s)) c)) its-claim)
+
+    -- and its claim is complete
+    pub answered-complete : Complete u (claimAsked (jobOf s .questions) k)
+    answered-complete =
+        subst (Complete u) its-claim
+        (mark-complete (ok s e) made (questionClaim (jobOf s) w (place .at)) (ok s e .question w (place .at) (place .real)) (made .verdicts .met w (place .at) small real))
+
+  pub claim-shown : (c : ℕ) → c < jobOf s .claims → 256 ≤ mark u c → mark u c ≡ markOf (verdict (programOf (jobOf s)) c)
+  claim-shown = made .verdicts .marks
+
+  -- all that isn't fresh is complete
+  opened-complete : (c : ℕ) → c < jobOf s .claims → 0 < mark u c → 256 ≤ mark u c
+  opened-complete = none-open (jobOf s) (ok s e) start (start-started (jobOf s) t room) all all-low all-answered
+
+  pub shown-complete : (c : ℕ) → c < jobOf s .claims → Complete u c → 256 ≤ mark u c
+  shown-complete = complete-mark (ok s e) made
+
+  pub other-fresh : (c : ℕ) → c < jobOf s .claims → (Complete u c → ⊥) → mark u c ≡ 0
+  other-fresh c h n =
+      by-cases (decLt 0 (mark u c)) (λ d. absurd (n (mark-complete (ok s e) made c h (opened-complete c h d)))) (λ d. omega arith)
+
+  pub literal-shown : P.OthersBehind (jobOf s) u
+  literal-shown = stands-behind (jobOf s) (valid s e) u made
 
   -- a claim that isn't fresh is one that a question names or leads to
   pub claim-asked : (c : ℕ) → c < jobOf s .claims → 0 < mark u c → Asked (jobOf s) c
@@ -175,7 +208,7 @@ module _ (s : List ℕ) (e : Accepted ≡ checkJob s) (t : List ℕ) (room : P.F
   pub claim-settled : (c : ℕ) → c < jobOf s .claims → readingOf (mark u c) ≡ Open → ⊥
   claim-settled c h =
       by-cases (decLt 0 (mark u c))
-      (λ d q. not-open (verdict (programOf (jobOf s)) c) (ap readingOf (sym (claim-shown c h (claim-asked c h d))) ∙ q))
+      (λ d q. not-open (verdict (programOf (jobOf s)) c) (ap readingOf (sym (claim-shown c h (opened-complete c h d))) ∙ q))
       (λ d. fresh-not-open (mark u c) (omega arith))
 
 -- the text is never empty
@@ -241,7 +274,13 @@ module _ (i : List ℕ) (e : Accepted ≡ listingCheck i) where
       let ws = schedulePart i in
       record {
         questions = lines-shown (jobOf s) _ (jobOf s .questions) 0 (λ k h. let z : 0 + k ≡ k = omega arith in ap (λ (x : ℕ). getD (runTable (jobOf s) (startWords (jobOf s) zeros) (played (jobOf s) (startWords (jobOf s) zeros) ws)) (answerWord (jobOf s) x) 0) z ∙ answer-shown s good zeros enough ws names-low k (omega (arith, questions-count s)));
-        claims = λ c h a. claim-line c (ap (λ (m : ℕ). nameOf (readingOf m)) (claim-shown s good zeros enough ws names-low c h a) ∙ named (verdict (programOf (jobOf s)) c));
+        claims = λ c h d.
+            claim-line c
+            (ap (λ (m : ℕ). nameOf (readingOf m)) (claim-shown s good zeros enough ws names-low c h (shown-complete s good zeros enough ws names-low c h d))
+            ∙ named (verdict (programOf (jobOf s)) c));
+        unopened = λ c h n. claim-line c (named-unopened _ (other-fresh s good zeros enough ws names-low c h n));
+        asked = λ k h. answered-complete s good zeros enough ws names-low k (omega (arith, questions-count s));
+        literals = literal-shown s good zeros enough ws names-low;
         others = λ c h n. claim-line c (named-unopened _ (claim-fresh s good zeros enough ws names-low c h n));
         settled = claim-settled s good zeros enough ws names-low;
       }

@@ -12,10 +12,12 @@ use Rattle.job.specs.Format.{jobOf}
 use Rattle.job.specs.declared.Check.the-variants.{Accepted}
 use Rattle.job.specs.declared.Question.{Question}
 use Rattle.model.specs.Model.{Verdict, True, False, Undefined, programOf, verdict}
+use Rattle.table.specs.Questions.{claimAsked}
 use Rattle.table.specs.Layout.{mark}
 use Rattle.table.specs.Reading.{readingOf}
 use Rattle.table.specs.declared.Reading.the-variants.{Open}
-use Rattle.turns.specs.Promise.{Asked}
+use Rattle.turns.specs.Lists.{Complete}
+use Rattle.turns.specs.Promise.{Asked, OthersBehind}
 use Rattle.listing.specs.Text.{decimal, blank, lineEnd, trueName, falseName, undefinedName, unopenedName}
 use Rattle.listing.specs.Listing.{jobPart, schedulePart, listingCheck, claimLine, questionLines, lastTable, listing}
 
@@ -38,9 +40,15 @@ unopenedLine c = decimal c ++ (blank ∷ []) ++ unopenedName ++ (lineEnd ∷ [])
 pub record Shows (j : Job) (t : List ℕ) : Type 0 where
   -- every question line has a value: its claim's verdict
   pub questions : questionLines j t 0 (j .questions) ≡ flatMap (verdictLine j) (j .questions)
-  -- the line of a claim that a question names or leads to has its verdict
-  pub claims : (c : ℕ) → c < j .claims → Asked j c → claimLine t c ≡ valueLine j c
-  -- every other claim's line says `unopened`
+  -- the line of a complete claim has its verdict
+  pub claims : (c : ℕ) → c < j .claims → Complete t c → claimLine t c ≡ valueLine j c
+  -- that of any other claim says `unopened`
+  pub unopened : (c : ℕ) → c < j .claims → (Complete t c → ⊥) → claimLine t c ≡ unopenedLine c
+  -- the claim of every question is complete
+  pub asked : (k : ℕ) → k < length (j .questions) → Complete t (claimAsked (j .questions) k)
+  -- (02, order 5) a literal of a rule of a complete claim is of a complete claim too, or stands behind a complete false one
+  pub literals : OthersBehind j t
+  -- the line of a claim that no question names or leads to says `unopened`
   pub others : (c : ℕ) → c < j .claims → (Asked j c → ⊥) → claimLine t c ≡ unopenedLine c
   -- no claim is open at the end: each is complete or fresh
   pub settled : (c : ℕ) → c < j .claims → readingOf (mark t c) ≡ Open → ⊥

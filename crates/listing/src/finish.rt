@@ -12,6 +12,7 @@ ghost use Rattle.turns.specs.Turn.{runTable, runKinds};
 ghost use Rattle.turns.specs.Calls.{counted as countedOf};
 ghost use Rattle.turns.specs.Ready.{Ready};
 ghost use Rattle.listing.specs.Finish.{answeredAll, nextWorker, finishTurns, most};
+use job::ClaimIndex;
 use job::format;
 use table::checks;
 use table::words;
@@ -59,7 +60,7 @@ fn most_turns(job: &[u8]) -> usize
 }
 
 // The turns that answer what is left, counted onto the tally.
-pub fn finish(job: &[u8], index: &[u32; 4097], table: &mut [u32], counts: [u64; 8]) -> [u64; 8]
+pub fn finish(job: &[u8], index: &ClaimIndex, table: &mut [u32], counts: [u64; 8]) -> [u64; 8]
     requires { ⌜ Ready (now job) (now index) (now table) ⌝ }
     requires { ⌜ ((k : ℕ) → getD counts k 0 < 4294967296) ⌝ }
     ensures { λ r. ⌜ r ≡ countedOf counts (runKinds (jobOf (now (job .entry))) (now (table .entry)) (finishTurns (most (jobOf (now (job .entry)))) (jobOf (now (job .entry))) (now (table .entry)) 0)) ⌝ }

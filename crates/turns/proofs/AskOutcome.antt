@@ -19,7 +19,8 @@ use Rattle.turns.proofs.View.{low-in, low-cong, askAt, askAt-in, askAt-
 use Rattle.turns.proofs.View as Q
 use Rattle.turns.proofs.Cases.{AtQuestion, asked, stored}
 use Rattle.turns.proofs.Words as X
-use Rattle.turns.proofs.Outcomes.{Outcome, idle, acts, done-of, of-done, of-own}
+use Rattle.turns.proofs.Behind.{same}
+use Rattle.turns.proofs.Outcomes.{Outcome, idle, acts, done-of, of-done, of-own, open-alike}
 
 module _ (j : Job) (J : JobOk j) (t : List ℕ) (R : InRange j t) (w : ℕ) (small : w < j .workers) where
   abbrev a : ℕ
@@ -40,7 +41,7 @@ module _ (j : Job) (J : JobOk j) (t : List ℕ) (R : InRange j t) (w : ℕ) (sma
           asks = λ u. low-cong _ _ (λ l. ap (askAt j u) (X.await-answered j t w 0 u));
           answers = λ u. low-cong _ _ (λ l. X.await-answered j t w 0 u);
           claims = Q.claims (X.await-mark j t w 0) (X.await-number j t w 0) (X.await-opened j t w 0);
-          literals = Q.stays (X.await-cursor j t w 0);
+          literals = Q.stays J (λ c l. same (X.await-mark j t w 0 c l)) (X.await-cursor j t w 0);
         }))
 
     pub sleeps-outcome : W.mark t (a - 1) < 256 → Outcome j t w (record { kind = Idle; table = t })
@@ -107,7 +108,9 @@ module _ (j : Job) (J : JobOk j) (t : List ℕ) (R : InRange j t) (w : ℕ) (sma
           claims =
               Q.claims (λ c l. X.stored-word j t w small (W.markWord c) (omega arith) (λ e. omega arith))
               (λ c l. X.stored-word j t w small (W.numberWord c) (omega arith) (λ e. omega arith)) (X.stored-word j t w small 7 (omega arith) (λ e. omega arith));
-          literals = Q.stays (λ c l. X.stored-word j t w small (W.cursorWord c) (omega arith) (λ e. omega arith));
+          literals =
+              Q.stays J (λ c l. same (X.stored-word j t w small (W.markWord c) (omega arith) (λ e. omega arith)))
+              (λ c l. X.stored-word j t w small (W.cursorWord c) (omega arith) (λ e. omega arith));
         }))
       where
         others : (u : ℕ) → u < j .workers → (u ≡ w → ⊥) → W.answered j (stored j t w) u ≡ W.answered j t u
@@ -123,7 +126,7 @@ module _ (j : Job) (J : JobOk j) (t : List ℕ) (R : InRange j t) (w : ℕ) (sma
           opens = Q.opens q-low z (X.open-mark t w q l) (X.open-marks t w q) (X.open-opened t w q l) (X.open-number t w q l) (X.open-numbers t w q);
           workers = Q.workers (λ u m. X.open-awaited t w q j q-low u) (λ u m. X.open-answered t w q j q-low u);
           literals =
-              Q.stays
+              Q.stays J (open-alike j J t w small q l z)
               (λ c m. by-cases (ℕ-discrete c q) (λ e. rw e (X.open-cursor t w q l ∙ sym (R .claim q q-low .unread z))) (X.open-cursors t w q c));
         }))
 
@@ -139,5 +142,5 @@ module _ (j : Job) (J : JobOk j) (t : List ℕ) (R : InRange j t) (w : ℕ) (sma
           claims = Q.claims (X.await-mark j t w (q + 1)) (X.await-number j t w (q + 1)) (X.await-opened j t w (q + 1));
           awaits =
               Q.awaits small (X.same t (W.awaitedWord j w) (q + 1) (omega (arith, R .room))) (X.await-others j t w (q + 1)) (X.await-answered j t w (q + 1));
-          literals = Q.stays (X.await-cursor j t w (q + 1));
+          literals = Q.stays J (λ c l. same (X.await-mark j t w (q + 1) c l)) (X.await-cursor j t w (q + 1));
         }))

@@ -4,6 +4,7 @@
 --   AtLeft j t w n c     c is w's newest claim reached from n with a literal left
 --   Others t w b         b is open and another's
 --   literal j t c        the claim of c's next literal;    moved t c   the table in which c has passed it
+--   skipped j t c        the table in which c has skipped the rest of its rule;    Clear j t c   no earlier literal of that rule is complete and false
 --   taken j t w c        the claims that w takes over
 --   Case j t w r         the turn r of w
 --   turn-case            the turn of w is by one of the cases
@@ -20,11 +21,12 @@ use Rattle.base.specs.Lists.{upto, keep, every}
 use Rattle.base.proofs.Bools.{and-in, and-left, and-right}
 use Rattle.base.proofs.Choose.{pick-elim}
 use Rattle.base.proofs.Lists.{In, in-upto, upto-in, in-keep, keep-in, every-in, in-every}
-use Rattle.job.specs.Job.{Job}
+use Rattle.job.specs.Job.{Job, ruleEnd}
 use Rattle.table.specs.Questions.{askedBy, questionClaim}
 use Rattle.table.specs.Layout as W
-use Rattle.turns.specs.Turn.{Turned, lits, reached, newest, allPassed, completedMark, openClaim, markAll, meets, askTurn, passTurn, workTurn, turn}
+use Rattle.turns.specs.Turn.{Turned, lits, reached, newest, allPassed, completedMark, openClaim, markAll, meets, askTurn, passTurn, workTurn, turn, clear}
 use Rattle.turns.specs.declared.Kind.the-variants.{Idle, Woke, Opened, Waits, Took, Passed, Completed, Answered}
+use Rattle.turns.proofs.Behind.{Behind, clear-not, behind-of}
 use Rattle.turns.proofs.Tests.{is-eq, not-eq, eq-not}
 use Rattle.turns.proofs.NewestOf.{NewestOf, none, some, newest-of}
 
@@ -60,6 +62,14 @@ literal j t c = getD (lits j c) (W.cursor t c) 0
 abbrev pub moved : List ℕ → ℕ → List ℕ
 moved t c = set t (W.cursorWord c) (W.cursor t c + 1)
 
+-- c's cursor at the end of the rule of its next literal
+abbrev pub skipped : Job → List ℕ → ℕ → List ℕ
+skipped j t c = set t (W.cursorWord c) (ruleEnd c (j .rules) (W.cursor t c))
+
+-- no earlier literal of that rule is complete and false
+abbrev pub Clear : Job → List ℕ → ℕ → Type 0
+Clear j t c = Behind j t c (W.cursor t c) → ⊥
+
 abbrev pub taken : Job → List ℕ → ℕ → List ℕ
 taken j t c = keep (λ d. not (W.fresh t d)) (reached j (moved t c) c)
 
@@ -83,11 +93,12 @@ pub data Case (j : Job) (t : List ℕ) (w : ℕ) : Turned → Type 0 where
   -- N is w's newest open claim
   completes : {n : ℕ} → AtNewest j t w n → ((x : ℕ) → In x (reached j t n) → (W.mark t x ≡ w + 1) × Full j t x) → Case j t w (record { kind = Completed; table = markAll (completedMark j t) (reached j t n) t })
   sticks : {n : ℕ} → AtNewest j t w n → (((x : ℕ) → In x (reached j t n) → (W.mark t x ≡ w + 1) × Full j t x) → ⊥) → ((x : ℕ) → In x (reached j t n) → W.mark t x ≡ w + 1 → (Full j t x → ⊥) → ⊥) → Case j t w (record { kind = Idle; table = t })
-  -- C passes a literal
-  passes : {n c : ℕ} → AtLeft j t w n c → (256 ≤ W.mark t (literal j t c)) ⊎ (W.mark t (literal j t c) ≡ w + 1) → Case j t w (record { kind = Passed; table = moved t c })
-  opens : {n c : ℕ} → AtLeft j t w n c → W.mark t (literal j t c) ≡ 0 → Case j t w (record { kind = Opened; table = openClaim (moved t c) w (literal j t c) })
-  takes : {n c : ℕ} → AtLeft j t w n c → Others t w (literal j t c) → T (meets (j .workers) j t w (W.mark t (literal j t c) - 1)) → Case j t w (record { kind = Took; table = markAll (λ d. w + 1) (taken j t c) (moved t c) })
-  waits : {n c : ℕ} → AtLeft j t w n c → Others t w (literal j t c) → T (not (meets (j .workers) j t w (W.mark t (literal j t c) - 1))) → Case j t w (record { kind = Waits; table = set (moved t c) (W.awaitedWord j w) (literal j t c + 1) })
+  -- C passes a literal, or skips the rest of its rule
+  passes : {n c : ℕ} → AtLeft j t w n c → (256 ≤ W.mark t (literal j t c)) ⊎ (W.mark t (literal j t c) ≡ w + 1) → Clear j t c → Case j t w (record { kind = Passed; table = moved t c })
+  skips : {n c : ℕ} → AtLeft j t w n c → Behind j t c (W.cursor t c) → Case j t w (record { kind = Passed; table = skipped j t c })
+  opens : {n c : ℕ} → AtLeft j t w n c → W.mark t (literal j t c) ≡ 0 → Clear j t c → Case j t w (record { kind = Opened; table = openClaim (moved t c) w (literal j t c) })
+  takes : {n c : ℕ} → AtLeft j t w n c → Others t w (literal j t c) → T (meets (j .workers) j t w (W.mark t (literal j t c) - 1)) → Clear j t c → Case j t w (record { kind = Took; table = markAll (λ d. w + 1) (taken j t c) (moved t c) })
+  waits : {n c : ℕ} → AtLeft j t w n c → Others t w (literal j t c) → T (not (meets (j .workers) j t w (W.mark t (literal j t c) - 1))) → Clear j t c → Case j t w (record { kind = Waits; table = set (moved t c) (W.awaitedWord j w) (literal j t c + 1) })
 
 module _ (j : Job) (t : List ℕ) (w : ℕ) where
   ask-case : W.awaited j t w ≡ 0 → ((x : ℕ) → x < j .claims → W.mark t x ≡ w + 1 → ⊥) → Case j t w (askTurn j t w)
@@ -105,14 +116,18 @@ module _ (j : Job) (t : List ℕ) (w : ℕ) where
   unfolding passTurn
   pass-case {n} {c} at =
       let b = literal j t c in
-      pick-elim (Case j t w) (W.complete t b) (λ d. passes at (inl (leb→le 256 (W.mark t b) d)))
+      pick-elim (Case j t w) (clear j t c (W.cursor t c))
+      (λ h.
+      let k : Clear j t c = clear-not j t c (W.cursor t c) h in
+      pick-elim (Case j t w) (W.complete t b) (λ d. passes at (inl (leb→le 256 (W.mark t b) d)) k)
       (λ d.
-      pick-elim (Case j t w) (W.owned t w b) (λ m. passes at (inr (eqb→eq (W.mark t b) (w + 1) m)))
+      pick-elim (Case j t w) (W.owned t w b) (λ m. passes at (inr (eqb→eq (W.mark t b) (w + 1) m)) k)
       (λ m.
-      pick-elim (Case j t w) (W.fresh t b) (λ f. opens at (eqb→eq (W.mark t b) 0 f))
+      pick-elim (Case j t w) (W.fresh t b) (λ f. opens at (eqb→eq (W.mark t b) 0 f) k)
       (λ f.
       let o : Others t w b = record { opened = not-eq (W.mark t b) 0 f; still = nleb→lt 256 (W.mark t b) d; other = not-eq (W.mark t b) (w + 1) m } in
-      pick-elim (Case j t w) (meets (j .workers) j t w (W.mark t b - 1)) (λ g. takes at o g) (λ g. waits at o g))))
+      pick-elim (Case j t w) (meets (j .workers) j t w (W.mark t b - 1)) (λ g. takes at o g k) (λ g. waits at o g k)))))
+      (λ h. skips at (behind-of j t c (W.cursor t c) h))
 
   module _ {n : ℕ} (at : AtNewest j t w n) where
     -- the tests of the text, as facts

@@ -5,17 +5,18 @@ use mathlib.Core.List.{List}
 use Prim.Native.Nat.{ℕ, _+_, _<_}
 use native.Mathlib.Omega.{arith}
 use lib.ListN.{getD, set, length-set}
-use Rattle.job.specs.Job.{Job}
+use Rattle.job.specs.Job.{Job, ruleEnd}
 use Rattle.table.specs.Layout as W
 use Rattle.table.specs.Ranges.{InRange}
 use Rattle.turns.specs.Turn.{kindNumber, Turned, reached, completedMark, markAll, turn}
 use Rattle.turns.specs.declared.Kind.{Kind}
 use Rattle.turns.specs.declared.Kind.the-variants.{Idle}
-use Rattle.turns.proofs.Jobs.{JobOk}
+use Rattle.turns.proofs.Jobs.{JobOk, lits-length}
+use Rattle.job.proofs.RuleEnds.{end-more}
 use Rattle.turns.proofs.Reached.{reached-start}
-use Rattle.turns.proofs.Cases.{AtLeft, literal, moved, taken, asked, Case, wakes, sleeps, rests, answers, opens-asked, waits-asked, completes, sticks, passes, opens, takes, waits, turn-case}
+use Rattle.turns.proofs.Cases.{AtLeft, literal, moved, taken, asked, Case, wakes, sleeps, rests, answers, opens-asked, waits-asked, completes, sticks, passes, skips, opens, takes, waits, turn-case}
 use Rattle.turns.proofs.Words as X
-use Rattle.turns.proofs.Range.{mark-range, c-low, b-low}
+use Rattle.turns.proofs.Range.{mark-range, c-low, c-room, b-low}
 use Rattle.turns.proofs.Takeover.{taken-in}
 
 pub record Changes (j : Job) (t : List ℕ) (w : ℕ) : Type 0 where
@@ -62,17 +63,22 @@ module _ (j : Job) (J : JobOk j) (t : List ℕ) (R : InRange j t) (w : ℕ) (sma
       omega
       (arith, J .few, a .its, mark-range j t n .0, X.marks-in (completedMark j t) (reached j t n) t n (omega (arith, R .room, a .low)) (reached-start j t n (a .low))))
   case-result r (sticks a b c) = idles
-  case-result r (passes {c = c} a b) = changed (λ e. omega (arith, ap kindNumber e)) (W.cursorWord c) (cursor-up a (moved t c) refl)
-  case-result r (opens {c = c} a b) =
+  case-result r (passes {c = c} a b f) = changed (λ e. omega (arith, ap kindNumber e)) (W.cursorWord c) (cursor-up a (moved t c) refl)
+  case-result r (skips {c = c} a b) =
+      changed (λ e. omega (arith, ap kindNumber e)) (W.cursorWord c)
+      (λ e.
+      omega
+      (arith, X.same t (W.cursorWord c) (ruleEnd c (j .rules) (W.cursor t c)) (omega (arith, R .room, c-low J R small a)), end-more c (j .rules) (W.cursor t c) (omega (arith, c-room J R small a, lits-length j c))))
+  case-result r (opens {c = c} a b f) =
       changed (λ e. omega (arith, ap kindNumber e)) (W.markWord (literal j t c))
       (λ e.
       omega
       (arith, X.open-mark (moved t c) w (literal j t c) (omega (arith, R .room, b-low J R small a, length-set t (W.cursorWord c) (W.cursor t c + 1)))))
-  case-result r (takes {c = c} a b m) =
+  case-result r (takes {c = c} a b m f) =
       changed (λ e. omega (arith, ap kindNumber e)) (W.cursorWord c)
       (cursor-up a (markAll (λ d. w + 1) (taken j t c) (moved t c))
       (X.marks-cursor j (λ d. w + 1) (taken j t c) (moved t c) (λ d i. taken-in j J t R w small a d i .low) c))
-  case-result r (waits {c = c} a b m) =
+  case-result r (waits {c = c} a b m f) =
       changed (λ e. omega (arith, ap kindNumber e)) (W.cursorWord c)
       (cursor-up a (set (moved t c) (W.awaitedWord j w) (literal j t c + 1))
       (X.await-cursor j (moved t c) w (literal j t c + 1) c (c-low J R small a)))

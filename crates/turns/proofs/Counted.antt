@@ -4,7 +4,7 @@ use mathlib.Core.Path.{_≡_, refl, _∙_, ap}
 use mathlib.Core.List.{List}
 use Prim.Native.Nat.{ℕ, _+_, _<_}
 use native.Mathlib.Omega.{arith}
-use Rattle.job.specs.Job.{Job}
+use Rattle.job.specs.Job.{Job, ruleEnd}
 use Rattle.table.specs.Layout as W
 use Rattle.table.specs.Ranges.{InRange}
 use Rattle.turns.specs.Turn.{kindNumber, Turned, reached, completedMark, turn}
@@ -12,7 +12,7 @@ use Rattle.turns.specs.declared.Kind.{Kind}
 use Rattle.turns.specs.declared.Kind.the-variants.{Answered}
 use Rattle.turns.proofs.Jobs.{JobOk}
 use Rattle.turns.proofs.Edges.{in-low}
-use Rattle.turns.proofs.Cases.{literal, moved, taken, asked, Case, wakes, sleeps, rests, answers, opens-asked, waits-asked, completes, sticks, passes, opens, takes, waits, turn-case}
+use Rattle.turns.proofs.Cases.{literal, moved, taken, asked, Case, wakes, sleeps, rests, answers, opens-asked, waits-asked, completes, sticks, passes, skips, opens, takes, waits, turn-case}
 use Rattle.turns.proofs.Words as X
 use Rattle.turns.proofs.Range.{c-low, b-low}
 use Rattle.turns.proofs.Takeover.{taken-in}
@@ -43,17 +43,19 @@ module _ (j : Job) (J : JobOk j) (t : List ℕ) (R : InRange j t) (w : ℕ) (sma
   case-counted r (completes {n = n} a b) =
       none _ _ (λ e. omega (arith, ap kindNumber e)) (X.marks-answered j (completedMark j t) (reached j t n) t (λ c i. in-low j J t c (a .low) i))
   case-counted r (sticks a b c) = none _ t (λ e. omega (arith, ap kindNumber e)) (λ u. refl)
-  case-counted r (passes {c = c} a b) = none _ _ (λ e. omega (arith, ap kindNumber e)) (X.cursor-answered j t c (W.cursor t c + 1) (c-low J R small a))
-  case-counted r (opens {c = c} a b) =
+  case-counted r (passes {c = c} a b f) = none _ _ (λ e. omega (arith, ap kindNumber e)) (X.cursor-answered j t c (W.cursor t c + 1) (c-low J R small a))
+  case-counted r (skips {c = c} a b) =
+      none _ _ (λ e. omega (arith, ap kindNumber e)) (X.cursor-answered j t c (ruleEnd c (j .rules) (W.cursor t c)) (c-low J R small a))
+  case-counted r (opens {c = c} a b f) =
       none _ _ (λ e. omega (arith, ap kindNumber e))
       (λ u.
       X.open-answered (moved t c) w (literal j t c) j (b-low J R small a) u ∙ X.cursor-answered j t c (W.cursor t c + 1) (c-low J R small a) u)
-  case-counted r (takes {c = c} a b m) =
+  case-counted r (takes {c = c} a b m f) =
       none _ _ (λ e. omega (arith, ap kindNumber e))
       (λ u.
       X.marks-answered j (λ d. w + 1) (taken j t c) (moved t c) (λ d i. taken-in j J t R w small a d i .low) u
       ∙ X.cursor-answered j t c (W.cursor t c + 1) (c-low J R small a) u)
-  case-counted r (waits {c = c} a b m) =
+  case-counted r (waits {c = c} a b m f) =
       none _ _ (λ e. omega (arith, ap kindNumber e))
       (λ u. X.await-answered j (moved t c) w (literal j t c + 1) u ∙ X.cursor-answered j t c (W.cursor t c + 1) (c-low J R small a) u)
 

@@ -34,7 +34,7 @@ use Rattle.job.proofs.Contiguous.{claim-literals}
 use Rattle.table.specs.Layout.{opened, markWord, cursorWord, numberWord, mark, cursor, number, awaitedWord, awaited, answerWord, fresh}
 use Rattle.table.specs.Ranges.{marked, ClaimInRange, InRange}
 use Rattle.table.proofs.Sizes.{sizes}
-use Rattle.turns.specs.Turn.{Turned, lits, reached, openClaim, markAll, meets, passTurn}
+use Rattle.turns.specs.Turn.{Turned, lits, clear, reached, openClaim, markAll, meets, passTurn}
 use Rattle.turns.specs.Ready.{Ready, Made, sizeIn}
 use Rattle.turns.specs.declared.Kind.the-variants.{Opened, Waits, Took, Passed}
 use Rattle.turns.proofs.Making.{made-as, made-from}
@@ -44,7 +44,7 @@ use Rattle.turns.proofs.Gathering.{lits-span}
 
 module _ (s index : List ℕ) (f : WellFormed s) (x : Index s index) (c : ℕ) (l : c < claims s) where
   pub size-is : sizeIn index c ≡ length (lits (jobOf s) c)
-  size-is = omega (arith, x c (omega arith), x (c + 1) (omega arith), claim-literals s f c .count, lits-length (jobOf s) c)
+  size-is = omega (arith, x .starts c (omega arith), x .starts (c + 1) (omega arith), claim-literals s f c .count, lits-length (jobOf s) c)
 
   -- with n literals passed and one left
   module _ (n : ℕ) (some : n < length (lits (jobOf s) c)) where
@@ -59,7 +59,7 @@ module _ (s index : List ℕ) (f : WellFormed s) (x : Index s index) (c : ℕ) (
 
     module _ {m : ℕ} (i : m ≡ rules s) {r : Cursor} (e : r ≡ record { at = getD index c 0 + n; end = getD index (c + 1) 0 }) where
       at-is : r .at ≡ claimStart s c + n
-      at-is = ap (λ (y : Cursor). y .at) e ∙ ap (λ (y : ℕ). y + n) (x c (omega arith))
+      at-is = ap (λ (y : Cursor). y .at) e ∙ ap (λ (y : ℕ). y + n) (x .starts c (omega arith))
 
       pub next-room : literalByte m (r .at) + 2 ≤ length s
       next-room = omega (arith, at-is, next-low, f .sized .size)
@@ -104,6 +104,7 @@ pub record Passing (s t : List ℕ) (w c p b m : ℕ) (u : List ℕ) : Type 0 wh
   pub low : b < claims s
   pub read : m ≡ mark t b
   pub stored : u ≡ set t (cursorWord c) (p + 1)
+  pub free : clear (jobOf s) t c (cursor t c) ≡ true
 
 module _ {s t : List ℕ} {w c p b m : ℕ} {u : List ℕ} (g : Passing s t w c p b m u) where
   other : (i : ℕ) → (i ≡ cursorWord c → ⊥) → getD u i 0 ≡ getD t i 0
@@ -195,10 +196,11 @@ module _ {s t : List ℕ} {w c p b m : ℕ} {u : List ℕ} (g : Passing s t w c 
   parts =
       let e : u ≡ set t (cursorWord c) (cursor t c + 1) = g .stored ∙ ap (λ (x : ℕ). set t (cursorWord c) (x + 1)) (g .passed) in
       let h : b ≡ getD (lits j c) (cursor t c) 0 = g .next ∙ ap (λ (x : ℕ). getD (lits j c) x 0) (g .passed) in
-      ap₂ (λ (x : ℕ) (y : List ℕ). byParts j w x (mark t x) y (meets (j .workers) j t w (mark t x - 1)) (taken j t y c)) (sym h) (sym e)
+      pick-true _ _ _ (g .free)
+      ∙ (ap₂ (λ (x : ℕ) (y : List ℕ). byParts j w x (mark t x) y (meets (j .workers) j t w (mark t x - 1)) (taken j t y c)) (sym h) (sym e)
       ∙ (ap (λ (x : ℕ). byParts j w b x u (meets (j .workers) j t w (x - 1)) (taken j t u c)) (sym (g .read))
       ∙ ap₂ (byParts j w b m u) (sym (meets-same j t u (marks g) (awaits g) (j .workers) w (m - 1)))
-      (keep-same (λ d. not (fresh t d)) (λ d. not (fresh u d)) (reached j u c) (λ d i. sym (fresh-same j t u (marks g) (awaits g) d))))
+      (keep-same (λ d. not (fresh t d)) (λ d. not (fresh u d)) (reached j u c) (λ d i. sym (fresh-same j t u (marks g) (awaits g) d)))))
 
   pub pass-complete : 256 ≤ m → Made (passTurn j t w c) Passed u
   pass-complete h = made-as _ _ (parts ∙ pick-true _ _ _ (le-leb 256 m h))

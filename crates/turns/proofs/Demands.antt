@@ -6,8 +6,8 @@ use Prim.Native.Nat.{ℕ}
 use Rattle.job.specs.Checks.{checkJob}
 use Rattle.job.specs.declared.Check.the-variants.{Accepted}
 use Rattle.turns.specs.Promise.{Promise}
-use Rattle.turns.proofs.OnLists.{on-verdicts, on-values, on-holds, on-quiet, on-changes, on-rounds}
-use Rattle.turns.proofs.Named.{on-claims}
+use Rattle.turns.proofs.OnLists.{answer-is, on-accepted, on-verdicts, on-values, on-holds, on-quiet, on-changes, on-rounds}
+use Rattle.turns.proofs.Named.{on-claims, on-literals}
 use Rattle.turns.proofs.Alone.{alone-accepted, alone-answers, on-answers}
 
 pub promise : (s : List ℕ) → Accepted ≡ checkJob s → Promise s
@@ -16,9 +16,12 @@ promise s e =
       verdicts = λ t f xs c. on-verdicts s e t f xs c;
       values = on-values s e;
       claims = λ t f xs. on-claims s e t f xs;
+      literals = λ t f xs. on-literals s e t f xs;
+      accepted = λ t f xs. on-accepted s e t f xs;
       answers = on-answers s e;
       aloneAccepted = alone-accepted s e;
       aloneAnswers = alone-answers s e;
+      right = λ t f xs w k h l y. answer-is s e t f xs w k h y;
       holds = λ t f xs w k h l y. on-holds s e t f xs w k h y;
       quiet = λ t f xs. on-quiet s e t f xs;
       changes = λ t f xs w. on-changes s e t f xs w;

@@ -1,52 +1,74 @@
 -- What a claim leads to, computed, is what the state's edges say; so what is reached is. Assumes nothing.
-use mathlib.Core.Path.{_≡_, sym}
-use mathlib.Core.Bool.{not}
-use mathlib.Core.List.{List, [], _∷_}
-use Prim.Native.Nat.{ℕ, zero, suc, _<_}
+use mathlib.Core.Path.{_≡_, sym, subst}
+use mathlib.Core.Bool.{not, _&&_}
+use mathlib.Core.List.{List, [], _∷_, map}
+use Prim.Native.Nat.{ℕ, _<_}
 use native.Mathlib.Omega.{arith}
-use lib.ListN.{length, getD, take}
-use lib.Dec.{nleb→lt, not-T, leb→le}
+use lib.ListN.{length, getD}
+use lib.Dec.{ltb, ltb→lt, lt→ltb, nleb→lt, not-T, leb→le}
+use Rattle.base.specs.Lists.{upto, keep}
+use Rattle.base.proofs.Bools.{and-in, and-left, and-right}
 use Rattle.base.specs.Graph.{Reach, here, step}
 use Rattle.base.proofs.Paths.{map as map-path}
-use Rattle.base.proofs.Lists.{In, in-head, in-tail, InCons, first, later, in-cases, in-nil, in-keep, keep-in}
+use Rattle.base.proofs.Lists.{In, in-head, in-tail, InCons, first, later, in-cases, in-nil, in-upto, upto-in, in-keep, keep-in}
 use Rattle.job.specs.Job.{Job}
 use Rattle.table.specs.Layout as W
 use Rattle.waiting.specs.State.{Edge}
-use Rattle.turns.specs.Turn.{lits, leads, reached}
+use Rattle.turns.specs.Turn.{lits, clear, leads, reached}
 use Rattle.turns.proofs.Jobs.{JobOk}
 use Rattle.turns.proofs.Reached.{Leads, reached-in, in-reached}
+use Rattle.turns.proofs.Behind.{Behind, clear-not, clear-of}
 use Rattle.turns.proofs.View.{low-in, view}
 
--- an index below n and the length at which y stands
-record At (l : List ℕ) (n y : ℕ) : Type 0 where
-  at : ℕ
-  before : at < n
-  real : at < length l
-  is : getD l at 0 ≡ y
+module _ (f : ℕ → ℕ) where
+  map-in : (s : List ℕ) (y : ℕ) → In y (map f s) → (k : ℕ) × In k s × (f k ≡ y)
+  map-in [] y i = absurd (in-nil y i)
+  map-in (x ∷ s) y i = go (map-in s y) (in-cases y (f x) (map f s) i)
+    where
+      go : (In y (map f s) → (k : ℕ) × In k s × (f k ≡ y)) → InCons y (f x) (map f s) → (k : ℕ) × In k (x ∷ s) × (f k ≡ y)
+      go ih (first e) = (x, in-head x s, sym e)
+      go ih (later k) = let a = ih k in (a .0, in-tail (a .0) x s (a .1), a .2)
 
-take-at : (l : List ℕ) (n y : ℕ) → In y (take n l) → At l n y
-take-at l zero y i = absurd (in-nil y i)
-take-at [] (suc n) y i = absurd (in-nil y i)
-take-at (x ∷ l) (suc n) y i = go (take-at l n y) (in-cases y x (take n l) i)
-  where
-    go : (In y (take n l) → At l n y) → InCons y x (take n l) → At (x ∷ l) (suc n) y
-    go ih (first e) = record { at = 0; before = omega arith; real = omega arith; is = sym e }
-    go ih (later k) = let a = ih k in record { at = suc (a .at); before = omega (arith, a .before); real = omega (arith, a .real); is = a .is }
+  in-map : (s : List ℕ) (k : ℕ) → In k s → In (f k) (map f s)
+  in-map [] k i = absurd (in-nil k i)
+  in-map (x ∷ s) k i = go (in-map s k) (in-cases k x s i)
+    where
+      go : (In k s → In (f k) (map f s)) → InCons k x s → In (f k) (f x ∷ map f s)
+      go ih (first e) = rw e (in-head (f x) (map f s))
+      go ih (later m) = in-tail (f k) (f x) (map f s) (ih m)
 
-at-take : (l : List ℕ) (n y k : ℕ) → k < n → k < length l → getD l k 0 ≡ y → In y (take n l)
-at-take l zero y k b r e = absurd (omega arith)
-at-take [] (suc n) y k b r e = absurd (omega arith)
-at-take (x ∷ l) (suc n) y zero b r e = rw (← e) (in-head x (take n l))
-at-take (x ∷ l) (suc n) y (suc k) b r e = in-tail y x (take n l) (at-take l n y k (omega arith) (omega arith) e)
+-- the place of a literal of d that c has passed, and that leads
+pub record At (j : Job) (t : List ℕ) (c d : ℕ) : Type 0 where
+  pub at : ℕ
+  pub before : at < W.cursor t c
+  pub real : at < length (lits j c)
+  pub is : getD (lits j c) at 0 ≡ d
+  pub clear : Behind j t c at → ⊥
 
 module _ (j : Job) (J : JobOk j) (t : List ℕ) where
-  leads-passed : {c d : ℕ} → Leads j t c d → At (lits j c) (W.cursor t c) d × (W.mark t d < 256)
+  abbrev places : ℕ → List ℕ
+  places c = keep (λ k. ltb k (W.cursor t c) && clear j t c k) (upto (length (lits j c)))
+
+  abbrev lit : ℕ → ℕ → ℕ
+  lit c k = getD (lits j c) k 0
+
+  pub leads-passed : {c d : ℕ} → Leads j t c d → At j t c d × (W.mark t d < 256)
   unfolding leads
   leads-passed {c} {d} l =
-      let k = keep-in (λ d. not (W.complete t d)) d (take (W.cursor t c) (lits j c)) (l .leads-in) in
-      (take-at (lits j c) (W.cursor t c) d (k .0), nleb→lt 256 (W.mark t d) (k .1))
+      let k = keep-in (λ d. not (W.complete t d)) d (map (lit c) (places c)) (l .leads-in) in
+      let m = map-in (lit c) (places c) d (k .0) in
+      let p = keep-in (λ k. ltb k (W.cursor t c) && clear j t c k) (m .0) (upto (length (lits j c))) (m .1) in (
+        record {
+          at = m .0;
+          before = ltb→lt (m .0) (W.cursor t c) (and-left (ltb (m .0) (W.cursor t c)) (clear j t c (m .0)) (p .1));
+          real = upto-in (m .0) (length (lits j c)) (p .0);
+          is = m .2;
+          clear = clear-not j t c (m .0) (and-right (ltb (m .0) (W.cursor t c)) (clear j t c (m .0)) (p .1));
+        },
+        nleb→lt 256 (W.mark t d) (k .1),
+      )
 
-  leads-low : (c d : ℕ) → Leads j t c d → d < j .claims
+  pub leads-low : (c d : ℕ) → Leads j t c d → d < j .claims
   leads-low c d l = let a = leads-passed l .0 in let h = J .literal c (a .at) (a .real) in rw (a .is) at h
 
   leads-edge : {c d : ℕ} → c < j .claims → Leads j t c d → Edge (view j t) c d
@@ -54,24 +76,30 @@ module _ (j : Job) (J : JobOk j) (t : List ℕ) where
       let p = leads-passed l in
       let a = p .0 in
       record {
-        passed = record { at = a .at; before = a .before; real = a .real; is = a .is; claim = h };
+        passed = record { at = a .at; before = a .before; real = a .real; is = a .is; claim = h; clear = a .clear };
         ahead = omega (arith, p .1, low-in (W.mark t d) (leads-low c d l));
       }
 
   edge-low : {c d : ℕ} → Edge (view j t) c d → d < j .claims
   edge-low {c} e = let p = e .passed in let h = J .literal c (p .at) (p .real) in rw (p .is) at h
 
-  edge-leads : {c d : ℕ} → Edge (view j t) c d → Leads j t c d
+  pub passed-leads : {c d : ℕ} (k : ℕ) → k < W.cursor t c → k < length (lits j c) → getD (lits j c) k 0 ≡ d → (Behind j t c k → ⊥) → W.mark t d < 256 → Leads j t c d
   unfolding leads
-  edge-leads {c} {d} e =
-      let p = e .passed in
-      let i : In d (take (W.cursor t c) (lits j c)) = at-take (lits j c) (W.cursor t c) d (p .at) (p .before) (p .real) (p .is) in
-      let m : W.mark t d < 256 = omega (arith, e .ahead, low-in (W.mark t d) (edge-low e)) in
+  passed-leads {c} {d} k before real is free m =
+      let p : In k (places c) =
+      in-keep (λ k. ltb k (W.cursor t c) && clear j t c k) k (upto (length (lits j c))) (in-upto k (length (lits j c)) real)
+      (and-in (ltb k (W.cursor t c)) (clear j t c k) (lt→ltb k (W.cursor t c) before) (clear-of j t c k free)) in
+      let i : In d (map (lit c) (places c)) = subst (λ (y : ℕ). In y (map (lit c) (places c))) is (in-map (lit c) (places c) k p) in
       record {
         leads-in =
-            in-keep (λ d. not (W.complete t d)) d (take (W.cursor t c) (lits j c)) i
+            in-keep (λ d. not (W.complete t d)) d (map (lit c) (places c)) i
             (not-T (W.complete t d) (λ b. absurd (omega (arith, leb→le 256 (W.mark t d) b))));
       }
+
+  edge-leads : {c d : ℕ} → Edge (view j t) c d → Leads j t c d
+  edge-leads {c} {d} e =
+      let p = e .passed in
+      passed-leads (p .at) (p .before) (p .real) (p .is) (p .clear) (omega (arith, e .ahead, low-in (W.mark t d) (edge-low e)))
 
   in-path : {c d : ℕ} → Reach (Leads j t) c d → c < j .claims → Reach (Edge (view j t)) c d
   in-path here h = here

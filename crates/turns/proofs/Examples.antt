@@ -1,21 +1,22 @@
--- 01's worked examples hold by running the definition. Assumes nothing.
+-- 01's worked examples, and some of order 5 (02), hold by running the definition. Assumes nothing.
 use Prim.Native.Nat.{ℕ}
-use mathlib.Core.List.{[], _∷_}
+use mathlib.Core.List.{List, [], _∷_}
 use mathlib.Core.Path.{_≡_, refl}
 use lib.ListN.{replicate}
 use Rattle.base.specs.Choose.{pick}
 use Rattle.base.specs.Span.{span}
 use Rattle.base.specs.Sets.{iterate}
 use Rattle.base.specs.Lists.{keep, every, isIn}
-use Rattle.job.specs.Job.{Rule, Job, literalsOf}
-use Rattle.job.specs.declared.Literal.the-variants.{Plain}
+use Rattle.job.specs.Job.{Rule, Job, literalsOf, ruleEnd}
+use Rattle.job.specs.declared.Literal.{Literal}
+use Rattle.job.specs.declared.Literal.the-variants.{Plain, Negated}
 use Rattle.job.specs.declared.Question.{Question}
 use Rattle.model.specs.Model.{program, step, D, stage, K, U, verdict, verdictOf, knownOf}
 use Rattle.table.specs.Questions.{positionsOf, askedBy, claimAsked, questionClaim}
 use Rattle.table.specs.Layout.{header, values}
 use Rattle.table.specs.Start.{startWords}
-use Rattle.turns.specs.Turn.{lits, leads, anyLeads, spread, spreads, reached, newest, allPassed, completedMark, openClaim, markAll, meets, askTurn, passTurn, workTurn, turn, runKinds}
-use Rattle.turns.specs.declared.Kind.the-variants.{Woke, Opened, Waits, Took, Completed, Answered}
+use Rattle.turns.specs.Turn.{lits, litAt, failed, clear, leads, anyLeads, spread, spreads, reached, newest, allPassed, completedMark, openClaim, markAll, meets, askTurn, passTurn, workTurn, turn, runKinds}
+use Rattle.turns.specs.declared.Kind.the-variants.{Woke, Opened, Waits, Took, Passed, Completed, Answered}
 
 infix 5 _if_
 abbrev _if_ : ℕ → ℕ → Rule
@@ -30,7 +31,7 @@ abbrev pub two : Job
 two = record { claims = 2; workers = 2; rules = (0 if 1) ∷ (1 if 0) ∷ []; questions = (0 asks 0) ∷ (1 asks 1) ∷ [] }
 
 pub two-kinds : runKinds two (startWords two (replicate 20 7)) (0 ∷ 1 ∷ 0 ∷ 1 ∷ 1 ∷ 1 ∷ 0 ∷ 0 ∷ []) ≡ Opened ∷ Opened ∷ Waits ∷ Took ∷ Completed ∷ Answered ∷ Woke ∷ Answered ∷ []
-unfolding runKinds turn workTurn passTurn askTurn meets markAll openClaim completedMark allPassed newest reached spreads spread anyLeads leads lits startWords values header questionClaim claimAsked askedBy positionsOf knownOf verdictOf verdict U K stage D step program literalsOf isIn every keep iterate span pick
+unfolding runKinds turn workTurn passTurn askTurn meets markAll openClaim completedMark allPassed newest reached spreads spread anyLeads leads clear failed ruleEnd litAt lits startWords values header questionClaim claimAsked askedBy positionsOf knownOf verdictOf verdict U K stage D step program literalsOf isIn every keep iterate span pick
 two-kinds = refl
 
 -- "0 if 1, 1 if 2, 2 if 0 with three workers asking 0, 1, 2, schedule 0 1 2 0 1 2 2: opened three times, waits, waits, took, completed."
@@ -38,5 +39,41 @@ abbrev three : Job
 three = record { claims = 3; workers = 3; rules = (0 if 1) ∷ (1 if 2) ∷ (2 if 0) ∷ []; questions = (0 asks 0) ∷ (1 asks 1) ∷ (2 asks 2) ∷ [] }
 
 pub three-kinds : runKinds three (startWords three (replicate 30 7)) (0 ∷ 1 ∷ 2 ∷ 0 ∷ 1 ∷ 2 ∷ 2 ∷ []) ≡ Opened ∷ Opened ∷ Opened ∷ Waits ∷ Waits ∷ Took ∷ Completed ∷ []
-unfolding runKinds turn workTurn passTurn askTurn meets markAll openClaim completedMark allPassed newest reached spreads spread anyLeads leads lits startWords values header questionClaim claimAsked askedBy positionsOf knownOf verdictOf verdict U K stage D step program literalsOf isIn every keep iterate span pick
+unfolding runKinds turn workTurn passTurn askTurn meets markAll openClaim completedMark allPassed newest reached spreads spread anyLeads leads clear failed ruleEnd litAt lits startWords values header questionClaim claimAsked askedBy positionsOf knownOf verdictOf verdict U K stage D step program literalsOf isIn every keep iterate span pick
 three-kinds = refl
+
+-- (02, order 5) "the turn moves the cursor to the rule's end and answers passed": a turn of its own, and no further than that rule
+infix 5 _if-all_
+abbrev _if-all_ : ℕ → List Literal → Rule
+h if-all b = record { head = h; body = b }
+
+-- 0 if 1, 2; 0 if 3; 3 always. 1 has no rule, so 2 is never opened, and 3 is.
+abbrev plain : Job
+plain = record { claims = 4; workers = 1; rules = (0 if-all (Plain 1 ∷ Plain 2 ∷ [])) ∷ (0 if 3) ∷ (3 if-all []) ∷ []; questions = (0 asks 0) ∷ [] }
+
+pub plain-kinds : runKinds plain (startWords plain (replicate 30 7)) (0 ∷ 0 ∷ 0 ∷ 0 ∷ 0 ∷ 0 ∷ 0 ∷ 0 ∷ []) ≡ Opened ∷ Opened ∷ Completed ∷ Passed ∷ Opened ∷ Completed ∷ Completed ∷ Answered ∷ []
+unfolding runKinds turn workTurn passTurn askTurn meets markAll openClaim completedMark allPassed newest reached spreads spread anyLeads leads clear failed ruleEnd litAt lits startWords values header questionClaim claimAsked askedBy positionsOf knownOf verdictOf verdict U K stage D step program literalsOf isIn every keep iterate span pick
+plain-kinds = refl
+
+-- false as a literal: 0 if not 1, 2; 1 always. 2 is never opened; but of 0 if not 1, 2 with no rule of 1 it is.
+abbrev negated : List Rule → Job
+negated rs = record { claims = 3; workers = 1; rules = (0 if-all (Negated 1 ∷ Plain 2 ∷ [])) ∷ rs; questions = (0 asks 0) ∷ [] }
+
+pub negated-kinds : runKinds (negated ((1 if-all []) ∷ [])) (startWords (negated ((1 if-all []) ∷ [])) (replicate 30 7)) (0 ∷ 0 ∷ 0 ∷ 0 ∷ 0 ∷ 0 ∷ []) ≡ Opened ∷ Opened ∷ Completed ∷ Passed ∷ Completed ∷ Answered ∷ []
+unfolding runKinds turn workTurn passTurn askTurn meets markAll openClaim completedMark allPassed newest reached spreads spread anyLeads leads clear failed ruleEnd litAt lits startWords values header questionClaim claimAsked askedBy positionsOf knownOf verdictOf verdict U K stage D step program literalsOf isIn every keep iterate span pick
+negated-kinds = refl
+
+pub holding-kinds : runKinds (negated []) (startWords (negated []) (replicate 30 7)) (0 ∷ 0 ∷ 0 ∷ 0 ∷ 0 ∷ 0 ∷ 0 ∷ []) ≡ Opened ∷ Opened ∷ Completed ∷ Opened ∷ Completed ∷ Completed ∷ Answered ∷ []
+unfolding runKinds turn workTurn passTurn askTurn meets markAll openClaim completedMark allPassed newest reached spreads spread anyLeads leads clear failed ruleEnd litAt lits startWords values header questionClaim claimAsked askedBy positionsOf knownOf verdictOf verdict U K stage D step program literalsOf isIn every keep iterate span pick
+holding-kinds = refl
+
+-- "A literal behind a complete false one in its rule no longer leads anywhere": 0 if 1, 2, both passed, 1 false and 2 open. 0 is completed without 2.
+abbrev behind : Job
+behind = record { claims = 3; workers = 1; rules = (0 if-all (Plain 1 ∷ Plain 2 ∷ [])) ∷ []; questions = (0 asks 0) ∷ [] }
+
+abbrev words : ℕ → List ℕ
+words m = 20 ∷ 3 ∷ 1 ∷ 1 ∷ 8 ∷ 17 ∷ 19 ∷ 3 ∷ m ∷ 2 ∷ 3 ∷ 257 ∷ 0 ∷ 2 ∷ 1 ∷ 0 ∷ 1 ∷ 0 ∷ 0 ∷ 0 ∷ []
+
+pub behind-turn : turn behind (words 1) 0 ≡ record { kind = Completed; table = words 257 }
+unfolding turn workTurn passTurn askTurn meets markAll openClaim completedMark allPassed newest reached spreads spread anyLeads leads clear failed ruleEnd litAt lits startWords values header questionClaim claimAsked askedBy positionsOf knownOf verdictOf verdict U K stage D step program literalsOf isIn every keep iterate span pick
+behind-turn = refl

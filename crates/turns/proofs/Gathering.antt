@@ -1,66 +1,44 @@
 -- The loop of `gather`: a worklist that holds all that is reached and not yet looked at. Assumes nothing.
 --   passed-met        the literals that a claim has passed, as the index and the table's cursor give them
 --   passed-room       meeting their claims stays within job, table and stack
---   leads-low         what a claim leads to is a claim
+--   leads-parts, -of  what a claim leads to is what a walk over its passed literals meets
 --   Gathering         what the loop keeps, with its laws: gathering-start, -more, -less, -done
-use Prim.Native.Nat.{ℕ, zero, suc, _+_, _*_, _-_, _≤_, _<_}
+use Prim.Native.Nat.{ℕ, _+_, _*_, _-_, _≤_, _<_}
 use mathlib.Core.Path.{_≡_, refl, sym, _∙_, ap, ap₂, subst, subst⁻¹}
 use mathlib.Core.Bool.{not}
-use mathlib.Core.List.{List, [], _∷_, map}
+use mathlib.Core.List.{List, map}
 use mathlib.Core.Logic.{by-cases}
 use native.Mathlib.Omega.{arith}
 use native.Mathlib.Decide.{ℕ-discrete, decLt}
-use lib.Dec.{T, eqb}
-use lib.ListN.{length, getD, set, take, length-set, List·getD-eq-default}
+use lib.Dec.{T, eqb, not-T, leb→le, nleb→lt}
+use lib.ListN.{length, getD, set, length-set, List·getD-eq-default}
 use lib.Seq.{getD-set-same}
 use Rattle.base.specs.Graph.{Reach, here}
 use Rattle.base.specs.Lists.{isIn}
 use Rattle.base.specs.Sets.{count}
 use Rattle.base.specs.Span.{span}
 use Rattle.base.proofs.Bools.{same}
-use Rattle.base.proofs.Lists.{In, in-head, in-tail, InCons, first, later, in-cases, in-nil, in-keep, keep-in}
+use Rattle.base.proofs.Lists.{In}
 use Rattle.base.proofs.Paths.{trans, one, stays}
 use Rattle.base.proofs.Sets.{count-le, count-mono, count-less}
 use Rattle.base.proofs.Span.{map-span}
 use Rattle.job.specs.Job.{claimOf}
 use Rattle.job.specs.Format.{claims, rules, literals, literalAt, jobOf}
 use Rattle.job.specs.Accepted.{WellFormed}
-use Rattle.job.specs.Claims.{claimStart}
+use Rattle.job.specs.Claims.{claimStart, endIn}
 use Rattle.job.specs.declared.Cursor.{Cursor}
 use Rattle.job.proofs.Contiguous.{claim-literals}
 use Rattle.model.specs.Passes.{setOf}
 use Rattle.model.proofs.Bytes.{cleared-none}
-use Rattle.table.specs.Layout.{cursor, complete}
-use Rattle.turns.specs.Turn.{lits, leads, reached}
+use Rattle.table.specs.Layout.{mark, cursor, complete}
+use Rattle.turns.specs.Turn.{lits, reached}
 use Rattle.turns.specs.Ready.{Ready}
-use Rattle.turns.specs.Gather.{Work, visits, met, Fits, Room}
+use Rattle.turns.specs.Gather.{Work, visits, metFrom, met, Fits, Room}
+use Rattle.turns.proofs.Jobs.{lits-length, job-ok}
 use Rattle.turns.proofs.Reached.{Leads, reached-in, in-reached}
+use Rattle.turns.proofs.Edges.{leads-passed, passed-leads, leads-low}
+use Rattle.turns.proofs.Walk.{end-is, end-past, Clear, met-in, in-met}
 use Rattle.turns.proofs.Worklist.{set-there, set-other, Stands, at, Was, before, new, Grown, grown-fits, visits-grown}
-
--- lists
-take-span : (f : ℕ → ℕ) (a n k : ℕ) → k ≤ n → take k (span f a n) ≡ span f a k
-unfolding span
-take-span f a n zero h = refl
-take-span f a zero (suc k) h = absurd (omega arith)
-take-span f a (suc n) (suc k) h = ap (λ (x : List ℕ). f a ∷ x) (take-span f (suc a) n k (omega arith))
-
-in-take : (n : ℕ) (s : List ℕ) (d : ℕ) → In d (take n s) → In d s
-in-take zero s d i = absurd (in-nil d i)
-in-take (suc n) [] d i = absurd (in-nil d i)
-in-take (suc n) (x ∷ s) d i = go (in-take n s d) (in-cases d x (take n s) i)
-  where
-    go : (In d (take n s) → In d s) → InCons d x (take n s) → In d (x ∷ s)
-    go ih (first e) = rw e (in-head x s)
-    go ih (later m) = in-tail d x s (ih m)
-
-span-each : (P : ℕ → Type 0) (f : ℕ → ℕ) (a n : ℕ) → ((i : ℕ) → a ≤ i → i < a + n → P (f i)) → (d : ℕ) → In d (span f a n) → P d
-unfolding span
-span-each P f a zero h d i = absurd (in-nil d i)
-span-each P f a (suc n) h d i = go (span-each P f (suc a) n (λ k g l. h k (omega arith) (omega arith)) d) (in-cases d (f a) (span f (suc a) n) i)
-  where
-    go : (In d (span f (suc a) n) → P d) → InCons d (f a) (span f (suc a) n) → P d
-    go ih (first e) = rw e (h a (omega arith) (omega arith))
-    go ih (later m) = ih m
 
 -- what is in a set has a byte
 seen-low : (w : List ℕ) (d : ℕ) → T (setOf w d) → d < length w
@@ -78,25 +56,46 @@ pub lits-span : (s : List ℕ) → WellFormed s → (c : ℕ) → lits (jobOf s)
 unfolding lits
 lits-span s w c = ap (map claimOf) (claim-literals s w c .part) ∙ map-span claimOf (literalAt s (rules s)) (claimStart s c) (claimStart s (c + 1) - claimStart s c)
 
-lits-low : (s : List ℕ) → WellFormed s → (c d : ℕ) → In d (lits (jobOf s) c) → d < claims s
-lits-low s w c d i =
-    let p = claim-literals s w c in
-    span-each (λ x. x < claims s) (λ k. claimOf (literalAt s (rules s) k)) (claimStart s c) (claimStart s (c + 1) - claimStart s c)
-    (λ k a l. w .literal k (omega (arith, p .within, p .ordered))) d (subst (In d) (lits-span s w c) i)
+-- what c leads to: the claims of literals that it has passed, and that stand behind none
+module _ (s index t : List ℕ) (r : Ready s index t) (c : ℕ) (h : c < claims s) where
+  abbrev over : Cursor
+  over = record { at = claimStart s c; end = claimStart s c + cursor t c }
 
-leads-parts : (s t : List ℕ) (c d : ℕ) → Leads (jobOf s) t c d → In d (take (cursor t c) (lits (jobOf s) c)) × T (not (complete t d))
-unfolding leads
-leads-parts s t c d l = keep-in (λ d. not (complete t d)) d (take (cursor t c) (lits (jobOf s) c)) (l .leads-in)
+  abbrev pub taken : List ℕ
+  taken = metFrom s (rules s) index t (cursor t c) over
 
-leads-of : (s t : List ℕ) (c d : ℕ) → In d (take (cursor t c) (lits (jobOf s) c)) → T (not (complete t d)) → Leads (jobOf s) t c d
-unfolding leads
-leads-of s t c d i n = record { leads-in = in-keep (λ d. not (complete t d)) d (take (cursor t c) (lits (jobOf s) c)) i n }
+  low-job : c < jobOf s .claims
+  low-job = omega (arith, job-claims s)
 
-taken-low : (s t : List ℕ) → WellFormed s → (c d : ℕ) → In d (take (cursor t c) (lits (jobOf s) c)) → d < claims s
-taken-low s t w c d i = lits-low s w c d (in-take (cursor t c) (lits (jobOf s) c) d i)
+  within : cursor t c ≤ length (lits (jobOf s) c)
+  within = omega (arith, r .table .claim c low-job .read, lits-length (jobOf s) c)
 
-pub leads-low : (s t : List ℕ) → WellFormed s → (c d : ℕ) → Leads (jobOf s) t c d → d < jobOf s .claims
-leads-low s t w c d l = omega (arith, job-claims s, taken-low s t w c d (leads-parts s t c d l .0))
+  -- the walk starts at c's literal 0
+  from-start : (d : ℕ) → In d (metFrom s (rules s) index t (cursor t c) (record { at = claimStart s c + 0; end = claimStart s c + cursor t c })) ≡ In d taken
+  from-start d =
+      let z : claimStart s c + 0 ≡ claimStart s c = omega arith in
+      ap (λ (y : ℕ). In d (metFrom s (rules s) index t (cursor t c) (record { at = y; end = claimStart s c + cursor t c }))) z
+
+  walked : (d : ℕ) → In d taken → Clear s index t (r .job) (r .indexed) c 0 (cursor t c) d
+  walked d i = met-in s index t (r .job) (r .indexed) c (cursor t c) 0 (cursor t c) within (λ b. omega (arith, b .before)) d (subst⁻¹ (λ (X : Type 0). X) (from-start d) i)
+
+  pub leads-parts : (d : ℕ) → Leads (jobOf s) t c d → In d taken × T (not (complete t d))
+  leads-parts d l =
+      let p = leads-passed (jobOf s) (job-ok s (r .job)) t l in
+      let a = p .0 in
+      let x : Clear s index t (r .job) (r .indexed) c 0 (cursor t c) d = record { at = a .at; from = omega arith; to = a .before; is = a .is; clear = a .clear } in
+      (subst (λ (X : Type 0). X) (from-start d) (in-met s index t (r .job) (r .indexed) c (cursor t c) 0 (cursor t c) within (omega arith) d x), not-T (complete t d) (λ b. absurd (omega (arith, p .1, leb→le 256 (mark t d) b))))
+
+  pub leads-of : (d : ℕ) → In d taken → T (not (complete t d)) → Leads (jobOf s) t c d
+  leads-of d i n =
+      let x = walked d i in
+      passed-leads (jobOf s) (job-ok s (r .job)) t (x .at) (x .to) (omega (arith, x .to, within)) (x .is) (x .clear) (nleb→lt 256 (mark t d) n)
+
+  pub taken-low : (d : ℕ) → In d taken → d < claims s
+  taken-low d i =
+      let x = walked d i in
+      let k : getD (lits (jobOf s) c) (x .at) 0 < jobOf s .claims = job-ok s (r .job) .literal c (x .at) (omega (arith, x .to, within)) in
+      omega (arith, job-claims s, subst (λ (y : ℕ). y < jobOf s .claims) (x .is) k)
 
 -- the cursor over what claim d has passed
 abbrev pub passedCursor : List ℕ → List ℕ → ℕ → Cursor
@@ -104,7 +103,7 @@ passedCursor index t d = record { at = getD index d 0; end = getD index d 0 + cu
 
 module _ (s index t : List ℕ) (r : Ready s index t) (d : ℕ) (l : d < claims s) where
   pub passed-from : getD index d 0 ≡ claimStart s d
-  passed-from = r .indexed d (omega arith)
+  passed-from = r .indexed .starts d (omega arith)
 
   pub passed-few : d < 4096
   passed-few = omega (arith, r .job .sized .claimsMost)
@@ -121,15 +120,14 @@ module _ (s index t : List ℕ) (r : Ready s index t) (d : ℕ) (l : d < claims 
       omega (arith, passed-from, p .within, p .ordered, r .job .sized .literalsMost)
 
   module _ (m : ℕ) (e : m ≡ rules s) (c : Cursor) (q : c ≡ passedCursor index t d) where
-    pub passed-met : met s m c ≡ take (cursor t d) (lits (jobOf s) d)
+    pub passed-met : met s m index t c ≡ taken s index t r d l
     passed-met =
-        let z : getD index d 0 + cursor t d - getD index d 0 ≡ cursor t d = omega arith in
-        ap₂ (met s) e q
-        ∙ (ap₂ (span (λ k. claimOf (literalAt s (rules s) k))) passed-from z
-        ∙ (sym (take-span (λ k. claimOf (literalAt s (rules s) k)) (claimStart s d) (claimStart s (d + 1) - claimStart s d) (cursor t d) passed-most)
-        ∙ ap (take (cursor t d)) (sym (lits-span s (r .job) d))))
+        let z : claimStart s d + cursor t d - claimStart s d ≡ cursor t d = omega arith in
+        ap₂ (λ (x : ℕ) (y : Cursor). met s x index t y) e q
+        ∙ (ap (λ (x : ℕ). met s (rules s) index t (record { at = x; end = x + cursor t d })) passed-from
+        ∙ ap (λ (n : ℕ). metFrom s (rules s) index t n (over s index t r d l)) z)
 
-    pub passed-room : (n : ℕ) (k : Work) → n ≡ claims s → Fits (claims s) k → Room s m t n c k
+    pub passed-room : (n : ℕ) (k : Work) → n ≡ claims s → Fits (claims s) k → Room s m index t n c k
     passed-room n k i f =
         let p = claim-literals s (r .job) d in
         let z = r .job .sized .size in
@@ -137,6 +135,12 @@ module _ (s index t : List ℕ) (r : Ready s index t) (d : ℕ) (l : d < claims 
         let b = ap (λ (x : Cursor). x .end) q in
         record {
           bytes = omega (arith, p .within, p .ordered, passed-most, passed-from);
+          most = omega (arith, p .within, p .ordered, passed-most, passed-from, r .job .sized .literalsMost);
+          ends = λ i g h.
+              let k = i - claimStart s d in
+              let y : claimStart s d + k ≡ i = omega (arith, passed-from) in
+              let low : k < length (lits (jobOf s) d) = omega (arith, passed-most, passed-from, p .count, lits-length (jobOf s) d) in
+              omega (arith, ap (endIn index) y, end-is s index t (r .job) (r .indexed) d k low, end-past s index t (r .job) (r .indexed) d k low);
           below = λ k g h. subst⁻¹ (λ (x : ℕ). claimOf (literalAt s m k) < x) i (subst⁻¹ (λ (x : ℕ). claimOf (literalAt s x k) < claims s) e (r .job .literal k (omega (arith, p .within, p .ordered, passed-most, passed-from))));
           words = omega (arith, r .table .room, job-claims s);
           fits = subst⁻¹ (λ (x : ℕ). Fits x k) i f;
@@ -197,21 +201,21 @@ module _ (s index t : List ℕ) (r : Ready s index t) (claim : ℕ) (k : Work) (
   pub next-fits : Fits (claims s) popped
   next-fits = record { few = g .fits .few; long = g .fits .long; wide = g .fits .wide; most = omega (arith, g .fits .most) }
 
-  module _ (m : ℕ) (i : m ≡ rules s) (c : Cursor) (q : c ≡ passedCursor index t d) (k′ : Work) (v : visits t (met s m c) popped ≡ k′) where
-    abbrev taken : List ℕ
-    taken = take (cursor t d) (lits (jobOf s) d)
+  module _ (m : ℕ) (i : m ≡ rules s) (c : Cursor) (q : c ≡ passedCursor index t d) (k′ : Work) (v : visits t (met s m index t c) popped ≡ k′) where
+    abbrev ones : List ℕ
+    ones = taken s index t r d next-low
 
-    grown : Grown t (claims s) taken popped k′
+    grown : Grown t (claims s) ones popped k′
     grown =
-        subst (λ (x : Work). Grown t (claims s) taken popped x) (ap (λ (bs : List ℕ). visits t bs popped) (sym (passed-met s index t r d next-low m i c q)) ∙ v)
-        (visits-grown t (claims s) taken popped next-fits (λ b h. taken-low s t (r .job) d b h))
+        subst (λ (x : Work). Grown t (claims s) ones popped x) (ap (λ (bs : List ℕ). visits t bs popped) (sym (passed-met s index t r d next-low m i c q)) ∙ v)
+        (visits-grown t (claims s) ones popped next-fits (λ b h. taken-low s index t r d next-low b h))
 
-    found : (b : ℕ) → Was t taken popped k′ b → Reach (Leads (jobOf s) t) claim b
+    found : (b : ℕ) → Was t ones popped k′ b → Reach (Leads (jobOf s) t) claim b
     found b (before h) = g .sound b h
-    found b (new h n x) = trans (g .sound d next-seen) (one (leads-of s t d b h n))
+    found b (new h n x) = trans (g .sound d next-seen) (one (leads-of s index t r d next-low b h n))
 
     shut : (x : ℕ) → x ≡ d → (b : ℕ) → Leads (jobOf s) t x b → T (setOf (k′ .seen) b)
-    shut x z b y = let p = leads-parts s t d b (rw z at y) in grown .met b (p .0) (p .1)
+    shut x z b y = let p = leads-parts s index t r d next-low b (rw z at y) in grown .met b (p .0) (p .1)
 
     still : (b : ℕ) → Looked s t k b → Looked s t k′ b
     still b (closed f) = closed (λ x y. grown .keeps x (f x y))
@@ -219,14 +223,14 @@ module _ (s index t : List ℕ) (r : Ready s index t) (claim : ℕ) (k : Work) (
         by-cases (decLt j (k .top - 1)) (λ l. waits (at j (omega (arith, grown .higher)) (grown .below j l ∙ z)))
         (λ n. let y : j ≡ k .top - 1 = omega arith in closed (shut b (sym z ∙ (ap (λ (x : ℕ). getD (k .stack) x 0) y ∙ sym e))))
 
-    looks : (b : ℕ) → Was t taken popped k′ b → Looked s t k′ b
+    looks : (b : ℕ) → Was t ones popped k′ b → Looked s t k′ b
     looks b (before h) = still b (g .looked b h)
     looks b (new h n x) = waits x
 
     pub gathering-more : Gathering s t claim k′
     gathering-more =
         record {
-          fits = grown-fits t (claims s) taken popped k′ next-fits grown;
+          fits = grown-fits t (claims s) ones popped k′ next-fits grown;
           start = grown .keeps claim (g .start);
           sound = λ b h. found b (grown .was b h);
           stacked = λ j h.
@@ -251,7 +255,7 @@ module _ (s index t : List ℕ) (r : Ready s index t) (claim : ℕ) (l : claim <
 
   pub gathering-done : (d : ℕ) → setOf (k .seen) d ≡ isIn d (reached (jobOf s) t claim)
   gathering-done d =
-      let low = leads-low s t (r .job) in
+      let low : (c d : ℕ) → Leads (jobOf s) t c d → d < jobOf s .claims = leads-low (jobOf s) (job-ok s (r .job)) t in
       let inside : claim < jobOf s .claims = omega (arith, job-claims s) in
       same (setOf (k .seen) d) (isIn d (reached (jobOf s) t claim)) (λ h. reached-in (jobOf s) t low claim inside d (g .sound d h))
       (λ h. stays (λ x. T (setOf (k .seen) x)) shut-all (in-reached (jobOf s) t low claim inside d h) (g .start))

@@ -6,7 +6,7 @@ use Prim.Native.Nat.{ℕ, _+_, _≤_, _<_}
 use native.Mathlib.Omega.{arith}
 use native.Mathlib.Decide.{ℕ-discrete, decLe}
 use lib.ListN.{length, getD}
-use Rattle.job.specs.Job.{Job}
+use Rattle.job.specs.Job.{Job, ruleEnd}
 use Rattle.model.specs.Model.{byteOf}
 use Rattle.table.specs.Questions.{askedBy, claimAsked, questionClaim}
 use Rattle.table.specs.Layout as W
@@ -15,13 +15,13 @@ use Rattle.turns.specs.Turn.{Turned, reached, completedMark, turn}
 use Rattle.turns.proofs.Places.{place-low, place-once}
 use Rattle.turns.proofs.Jobs.{JobOk}
 use Rattle.turns.proofs.Edges.{in-low}
-use Rattle.turns.proofs.Cases.{AtQuestion, literal, moved, taken, asked, stored, Case, wakes, sleeps, rests, answers, opens-asked, waits-asked, completes, sticks, passes, opens, takes, waits, turn-case}
+use Rattle.turns.proofs.Cases.{AtQuestion, literal, moved, taken, asked, stored, Case, wakes, sleeps, rests, answers, opens-asked, waits-asked, completes, sticks, passes, skips, opens, takes, waits, turn-case}
 use Rattle.turns.proofs.Words as X
 use Rattle.turns.proofs.Range.{c-low, b-low}
 use Rattle.turns.proofs.PassOutcome.{moved-long}
 use Rattle.turns.proofs.Takeover.{taken-in}
 use Rattle.turns.proofs.Verdicts.{verdictIn, answerTo, Verdicts, completed-right}
-use Rattle.turns.proofs.Steady.{Steady, steady-trans, await-steady, moved-steady, open-steady, all-steady}
+use Rattle.turns.proofs.Steady.{Steady, steady-trans, await-steady, moved-steady, cursor-steady, open-steady, all-steady}
 
 module _ (j : Job) (J : JobOk j) (t : List ℕ) (R : InRange j t) where
   pub steady-keeps : (t′ : List ℕ) → Steady j t t′ → Verdicts j t → Verdicts j t′
@@ -133,13 +133,14 @@ module _ (j : Job) (J : JobOk j) (t : List ℕ) (R : InRange j t) where
         (all-steady (completedMark j t) (reached j t n) t
         (λ c i. (in-low j J t c (a .low) i, omega (arith, b c i .0, J .few))) (λ c l. completed-right G c) (omega (arith, R .room)))
     effect r (sticks a b c) = still
-    effect r (passes {c = c} a b) = steady (moved-steady t c (c-low J R small a))
-    effect r (opens {c = c} a b) =
+    effect r (passes {c = c} a b f) = steady (moved-steady t c (c-low J R small a))
+    effect r (skips {c = c} a b) = steady (cursor-steady t c (ruleEnd c (j .rules) (W.cursor t c)) (c-low J R small a))
+    effect r (opens {c = c} a b f) =
         let l = b-low J R small a in
         steady
         (steady-trans (moved-steady t c (c-low J R small a))
         (open-steady (moved t c) w (literal j t c) (omega (arith, J .few)) l (omega (arith, R .room, moved-long j J t R w small a)) (X.cursor-mark j t c (W.cursor t c + 1) (literal j t c) ∙ b)))
-    effect r (takes {c = c} a b m) =
+    effect r (takes {c = c} a b m f) =
         steady
         (steady-trans (moved-steady t c (c-low J R small a))
         (all-steady (λ d. w + 1) (taken j t c) (moved t c)
@@ -147,7 +148,7 @@ module _ (j : Job) (J : JobOk j) (t : List ℕ) (R : InRange j t) where
         let k = taken-in j J t R w small a d i in
         (k .low, omega (arith, k .still, X.cursor-mark j t c (W.cursor t c + 1) d)))
         (λ d l. absurd (omega (arith, J .few))) (omega (arith, R .room, moved-long j J t R w small a))))
-    effect r (waits {c = c} a b m) =
+    effect r (waits {c = c} a b m f) =
         steady (steady-trans (moved-steady t c (c-low J R small a)) (await-steady (moved t c) w (literal j t c + 1) small))
 
     pub verdicts-kept : Verdicts j (turn j t w .table)

@@ -13,6 +13,8 @@ pub mod Tests
 pub mod Places
 pub mod Jobs
 pub mod Making
+pub mod Behind
+pub mod Walk
 pub mod View
 pub mod Edges
 pub mod NewestOf
@@ -39,6 +41,7 @@ pub mod Past
 pub mod Bounds
 pub mod Bounded
 pub mod Cursors
+pub mod Skipping
 pub mod Completing
 pub mod Tallies
 pub mod Running

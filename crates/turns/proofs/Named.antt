@@ -1,54 +1,49 @@
--- The claims that questions name or lead to, by lists (Asked) and by places (Led). Assumes nothing.
---   led-asked, asked-led   from one to the other
---   on-claims              the clause `claims` of Promise
+-- Which claims turns complete: those that questions name or lead to, by lists (Asked) and by places (Led), and of the literals of their rules
+-- all but those behind a false one, by rules (OthersBehind) and by places (Behind). Assumes nothing.
+--   led-asked, stands-behind   from places to lists and rules
+--   on-claims, on-literals     the clauses `claims` and `literals` of Promise
 use mathlib.Core.Path.{_≡_, refl, sym, _∙_, ap, subst}
-use mathlib.Core.Logic.{_↔_, ⊎-elim}
-use mathlib.Core.Bool.{Bool, true, false}
-use mathlib.Core.List.{List, [], _∷_, List·Memᴰ·head, List·Memᴰ·tail, List·Memᴰ·not-nil, List·Memᴰ·cases-cons}
-use Prim.Native.Nat.{ℕ, zero, suc, _+_, _<_}
+use mathlib.Core.Logic.{by-cases}
+use mathlib.Core.List.{List, [], _∷_, _++_, List·Memᴰ·head, List·Memᴰ·tail}
+use Prim.Native.Nat.{ℕ, zero, suc, _+_, _-_, _≤_, _<_}
 use native.Mathlib.Omega.{arith}
-use borrow.Author.Tests.{eq-eqb}
-use lib.Dec.{eqb}
-use lib.ListN.{length, getD}
-use Rattle.base.specs.Choose.{pick}
+use native.Mathlib.Decide.{decLt}
+use lib.Dec.{T, eqb→eq}
+use lib.ListN.{length, getD, length-append, List·getD-append}
+use lib.Seq.{getD-append-seam}
 use Rattle.base.specs.Graph.{Reach, here, step}
-use Rattle.base.proofs.Choose.{pick-true}
-use Rattle.job.specs.Job.{Job}
+use Rattle.job.specs.Job.{Job, Rule, claimOf, literalsOf}
 use Rattle.job.specs.Format.{jobOf}
 use Rattle.job.specs.Encoding.{_∈_, Valid}
 use Rattle.job.specs.Checks.{checkJob}
 use Rattle.job.specs.declared.Check.the-variants.{Accepted}
+use Rattle.job.specs.declared.Literal.{Literal}
+use Rattle.job.specs.declared.Literal.the-variants.{Plain, Negated}
 use Rattle.job.specs.declared.Question.{Question}
-use Rattle.table.specs.Questions.{positionsOf, askedBy, claimAsked, questionClaim}
+use Rattle.job.proofs.RuleEnds.{RuleAt, rule-at}
+use Rattle.model.specs.Model.{Verdict, True, False, Undefined, opposite, programOf, literalVerdict, byteOf}
+use Rattle.table.specs.Questions.{askedBy, claimAsked, questionClaim}
 use Rattle.table.specs.Layout as W
 use Rattle.table.specs.Start.{startWords}
 use Rattle.waiting.specs.Led as L
-use Rattle.turns.specs.Turn.{lits, runTable}
-use Rattle.turns.specs.Lists.{Call, turnsOf, AllAnswered, Complete}
-use Rattle.turns.specs.Promise.{Fresh, from, history, Leads, Asked}
-use Rattle.turns.proofs.Jobs.{JobOk, valid-ok}
+use Rattle.turns.specs.Turn.{lits, litAt, failed, runTable}
+use Rattle.turns.specs.Lists.{Call, turnsOf, Complete}
+use Rattle.turns.specs.Promise.{Fresh, from, Leads, Asked, FalseAmong, OthersBehind}
+use Rattle.turns.proofs.Jobs.{JobOk, lits-length, valid-ok}
 use Rattle.turns.proofs.Places.{place-low}
-use Rattle.turns.proofs.Promise.{LitAt, led-job, only-led, all-led}
+use Rattle.turns.proofs.Behind.{Behind, claim-lit, failed-done}
+use Rattle.turns.proofs.Verdicts.{verdictIn}
+use Rattle.turns.proofs.Runs.{Made}
+use Rattle.turns.proofs.Promise.{LitAt, led-job, only-led, else-behind}
 use Rattle.turns.proofs.Histories.{turns-low, after-turns}
 use Rattle.turns.proofs.Answers.{complete-mark, mark-complete}
-use Rattle.turns.proofs.OnLists.{valid, ok, started, made-after, all-words}
+use Rattle.turns.proofs.OnLists.{valid, ok, started, made-after}
 
 -- members of a list, by their places
-record Index (l : List ℕ) (y : ℕ) : Type 0 where
-  at : ℕ
-  real : at < length l
-  is : getD l at 0 ≡ y
-
-index : (l : List ℕ) (y : ℕ) → y ∈ l → Index l y
-index [] y i = absurd (List·Memᴰ·not-nil i)
-index (x ∷ l) y i =
-    ⊎-elim (λ e. record { at = 0; real = omega arith; is = sym e })
-    (λ m. let k = index l y m in record { at = suc (k .at); real = omega (arith, k .real); is = k .is }) (List·Memᴰ·cases-cons i)
-
-member : (l : List ℕ) (i : ℕ) → i < length l → getD l i 0 ∈ l
-member [] i h = absurd (omega arith)
-member (x ∷ l) zero h = List·Memᴰ·head refl
-member (x ∷ l) (suc i) h = List·Memᴰ·tail (member l i (omega arith))
+member : {A : Type 0} (l : List A) (d : A) (i : ℕ) → i < length l → getD l i d ∈ l
+member [] d i h = absurd (omega arith)
+member (x ∷ l) d zero h = List·Memᴰ·head refl
+member (x ∷ l) d (suc i) h = List·Memᴰ·tail (member l d i (omega arith))
 
 -- the question at a place of the file
 record Found (qs : List Question) (c : ℕ) : Type 0 where
@@ -64,45 +59,10 @@ found (q ∷ qs) (suc p) h =
     let k = found qs p (omega arith) in
     record { question = k .question; is = List·Memᴰ·tail (k .is); claim = k .claim }
 
--- the place of a question among its worker's, whose positions in the file, from k on, are ps
-record Placed (ps : List ℕ) (qs : List Question) (k c : ℕ) : Type 0 where
-  at : ℕ
-  real : at < length ps
-  place : ℕ
-  is : getD ps at 0 ≡ k + place
-  claim : claimAsked qs place ≡ c
-
-later : (b : Bool) (ps : List ℕ) (q : Question) (qs : List Question) (k c : ℕ) → Placed ps qs (suc k) c → Placed (pick b (k ∷ ps) ps) (q ∷ qs) k c
-unfolding pick claimAsked
-later true ps q qs k c p =
-    record { at = suc (p .at); real = omega (arith, p .real); place = suc (p .place); is = omega (arith, p .is); claim = p .claim }
-later false ps q qs k c p = record { at = p .at; real = p .real; place = suc (p .place); is = omega (arith, p .is); claim = p .claim }
-
-placed : (qs : List Question) (k : ℕ) (q : Question) → q ∈ qs → Placed (positionsOf qs k (q .worker)) qs k (q .claim)
-unfolding positionsOf claimAsked
-placed [] k q i = absurd (List·Memᴰ·not-nil i)
-placed (x ∷ qs) k q i =
-    ⊎-elim
-    (λ e.
-    subst (λ ps. Placed ps (x ∷ qs) k (q .claim))
-    (sym (pick-true (eqb (x .worker) (q .worker)) (k ∷ positionsOf qs (suc k) (q .worker)) (positionsOf qs (suc k) (q .worker)) (eq-eqb (x .worker) (q .worker) (ap (λ (y : Question). y .worker) (sym e)))))
-    (record { at = 0; real = omega arith; place = 0; is = omega arith; claim = ap (λ (y : Question). y .claim) (sym e) }))
-    (λ m. later (eqb (x .worker) (q .worker)) (positionsOf qs (suc k) (q .worker)) x qs k (q .claim) (placed qs (suc k) q m)) (List·Memᴰ·cases-cons i)
-
 module _ (j : Job) (v : Valid j) where
-  J : JobOk j
-  J = valid-ok j v
-
   by-list : {x y : ℕ} → Reach (LitAt j) x y → Reach (Leads j) x y
   by-list here = here
-  by-list {x} (step l p) = step (subst (λ z. z ∈ lits j x) (l .is) (member (lits j x) (l .at) (l .real))) (by-list p)
-
-  by-place : {x y : ℕ} → x < j .claims → Reach (Leads j) x y → Reach (LitAt j) x y
-  by-place h here = here
-  by-place {x} h (step {y = z} l p) =
-      let i = index (lits j x) z l in
-      step (record { at = i .at; real = i .real; is = i .is; claim = h })
-      (by-place (subst (λ (n : ℕ). n < j .claims) (i .is) (J .literal x (i .at) (i .real))) p)
+  by-list {x} (step l p) = step (subst (λ z. z ∈ lits j x) (l .is) (member (lits j x) 0 (l .at) (l .real))) (by-list p)
 
   pub led-asked : (c : ℕ) → L.Led (led-job j) c → Asked j c
   unfolding questionClaim
@@ -110,13 +70,79 @@ module _ (j : Job) (v : Valid j) where
       let f = found (j .questions) (getD (askedBy j w) i 0) (place-low j w i l) in
       record { question = f .question; is = f .is; leads = subst (λ (x : ℕ). Reach (Leads j) x c) (sym (f .claim)) (by-list p) }
 
-  pub asked-led : (c : ℕ) → Asked j c → L.Led (led-job j) c
-  unfolding questionClaim askedBy
-  asked-led c a =
-      let q = a .question in
-      let k = placed (j .questions) 0 q (a .is) in
-      let e : questionClaim j (q .worker) (k .at) ≡ q .claim = ap (claimAsked (j .questions)) (omega (arith, k .is)) ∙ k .claim in
-      L.led {w = q .worker} {i = k .at} (v .askers q (a .is)) (k .real) (subst (λ (x : ℕ). Reach (LitAt j) x c) (sym e) (by-place (v .asked q (a .is)) (a .leads)))
+-- in any table that turns made
+module _ (j : Job) (v : Valid j) (t : List ℕ) (M : Made j t) where
+  abbrev J : JobOk j
+  J = valid-ok j v
+
+  by-byte : (u : Verdict) → byteOf u ≡ 2 → u ≡ False
+  by-byte True e = absurd (omega arith)
+  by-byte False e = refl
+  by-byte Undefined e = absurd (omega arith)
+
+  by-one : (u : Verdict) → byteOf u ≡ 1 → opposite u ≡ False
+  by-one True e = refl
+  by-one False e = absurd (omega arith)
+  by-one Undefined e = absurd (omega arith)
+
+  -- a literal that fails is false in the model
+  failed-false : (l : Literal) → claimOf l < j .claims → T (failed t l) → literalVerdict (programOf j) l ≡ False
+  unfolding failed
+  failed-false (Plain c) h f =
+      let e = eqb→eq (W.mark t c) 257 f in
+      by-byte (verdictIn j c) (omega (arith, M .verdicts .marks c h (omega arith)))
+  failed-false (Negated c) h f =
+      let e = eqb→eq (W.mark t c) 256 f in
+      by-one (verdictIn j c) (omega (arith, M .verdicts .marks c h (omega arith)))
+
+  -- literal k of rule r, which stands at p among its head's, and one of the rule before it that fails
+  module _ (r : Rule) (p : RuleAt (r .head) (j .rules) r) (before : List Literal) (l : Literal) (rest : List Literal) (e : r .body ≡ before ++ (l ∷ rest)) where
+    sized : length (r .body) ≡ length before + suc (length rest)
+    sized = ap length e ∙ length-append before (l ∷ rest)
+
+    its : litAt j (r .head) (p .from + length before) ≡ l
+    unfolding litAt
+    its =
+        p .literal (length before) (omega (arith, sized))
+        ∙ (ap (λ (ls : List Literal). getD ls (length before) (Plain 0)) e ∙ getD-append-seam before l rest (Plain 0))
+
+    module _ (b : Behind j t (r .head) (p .from + length before)) where
+      not-before : p .from ≤ b .at
+      not-before = by-cases (decLt (b .at) (p .from)) (λ h. absurd (omega (arith, p .before (b .at) h, b .within))) (λ h. omega arith)
+
+      in-rule : litAt j (r .head) (b .at) ≡ getD before (b .at - p .from) (Plain 0)
+      unfolding litAt
+      in-rule =
+          let z : p .from + (b .at - p .from) ≡ b .at = omega (arith, not-before) in
+          ap (λ (i : ℕ). getD (literalsOf (r .head) (j .rules)) i (Plain 0)) (sym z)
+          ∙ (p .literal (b .at - p .from) (omega (arith, b .before, sized, not-before))
+          ∙ (ap (λ (ls : List Literal). getD ls (b .at - p .from) (Plain 0)) e
+          ∙ List·getD-append before (l ∷ rest) (Plain 0) (b .at - p .from) (omega (arith, b .before, not-before))))
+
+      among : FalseAmong j t before
+      among =
+          let x = getD before (b .at - p .from) (Plain 0) in
+          let f : T (failed t (getD before (b .at - p .from) (Plain 0))) = subst (λ (y : Literal). T (failed t y)) in-rule (b .fails) in
+          let low : claimOf (getD before (b .at - p .from) (Plain 0)) < j .claims =
+          subst (λ (y : ℕ). y < j .claims) (claim-lit j (r .head) (b .at) ∙ ap claimOf in-rule)
+          (J .literal (r .head) (b .at) (omega (arith, b .before, p .most, sized, lits-length j (r .head)))) in
+          record {
+            literal = x;
+            is = member before (Plain 0) (b .at - p .from) (omega (arith, b .before, not-before));
+            complete = mark-complete J M (claimOf x) low (failed-done t x f);
+            false = failed-false x low f;
+          }
+
+  pub stands-behind : OthersBehind j t
+  stands-behind r i d before l rest e n =
+      let c = r .head in
+      let p = rule-at (r .head) (j .rules) r i refl in
+      let k = p .from + length before in
+      let low : p .from + length before < length (lits j (r .head)) = omega (arith, p .most, sized r p before l rest e, lits-length j (r .head)) in
+      let is : getD (lits j (r .head)) (p .from + length before) 0 ≡ claimOf l = claim-lit j (r .head) (p .from + length before) ∙ ap claimOf (its r p before l rest e) in
+      among r p before l rest e
+      (else-behind j J t M c (v .heads r i) (complete-mark J M c (v .heads r i) d) k low
+      (λ m. n (subst (Complete t) is (mark-complete J M (getD (lits j c) k 0) (J .literal c k low) m))))
 
 module _ (s : List ℕ) (e : Accepted ≡ checkJob s) (t : List ℕ) (room : Fresh s t) (xs : List Call) where
   abbrev start : List ℕ
@@ -128,15 +154,11 @@ module _ (s : List ℕ) (e : Accepted ≡ checkJob s) (t : List ℕ) (room : Fre
   after-is : (c : ℕ) → W.mark (from s t xs) c ≡ W.mark (runTable (jobOf s) start ws) c
   after-is c = ap (λ (u : List ℕ). W.mark u c) (after-turns s xs start)
 
-  pub on-claims : AllAnswered (jobOf s) (history s t xs) → (c : ℕ) → c < jobOf s .claims → Complete (from s t xs) c ↔ Asked (jobOf s) c
-  on-claims a c h = (
-    λ d.
-        led-asked (jobOf s) (valid s e) c
-        (only-led (jobOf s) (ok s e) start (started s e t room xs) ws (turns-low s xs start) c h
-        (omega (arith, complete-mark (ok s e) (made-after s e t room xs) c h d, after-is c))),
-    λ p.
-        let z = all-words s e t room xs a in
-        mark-complete (ok s e) (made-after s e t room xs) c h
-        (omega
-        (arith, after-is c, all-led (jobOf s) (ok s e) start (started s e t room xs) ws (turns-low s xs start) (λ w g. omega (arith, z w g, ap (λ (u : List ℕ). W.answered (jobOf s) u w) (after-turns s xs start))) c (asked-led (jobOf s) (valid s e) c p) .1)),
-  )
+  pub on-claims : (c : ℕ) → c < jobOf s .claims → Complete (from s t xs) c → Asked (jobOf s) c
+  on-claims c h d =
+      led-asked (jobOf s) (valid s e) c
+      (only-led (jobOf s) (ok s e) start (started s e t room xs) ws (turns-low s xs start) c h
+      (omega (arith, complete-mark (ok s e) (made-after s e t room xs) c h d, after-is c)))
+
+  pub on-literals : OthersBehind (jobOf s) (from s t xs)
+  on-literals = stands-behind (jobOf s) (valid s e) (from s t xs) (made-after s e t room xs)

@@ -1,7 +1,7 @@
 -- Demands 2 and 3 on one list of calls, from a table freshly started: verdicts, values, answers, quiet and rounds. Assumes nothing.
 --   times-are     a worker's turns of kind answered are as many as its word says
 --   answer-is     the answer of an answered question is its claim's verdict
---   on-verdicts, on-values, on-holds, on-quiet, on-rounds   the clauses of Promise of these names
+--   on-accepted, on-verdicts, on-values, on-holds, on-quiet, on-rounds   the clauses of Promise of these names
 use mathlib.Core.Path.{_≡_, sym, _∙_, ap, subst}
 use mathlib.Core.Logic.{_↔_, by-cases}
 use mathlib.Core.List.{List}
@@ -18,8 +18,10 @@ use Rattle.job.proofs.Valid.{well-formed-valid}
 use Rattle.model.specs.Model.{byteOf}
 use Rattle.table.specs.Questions.{askedBy, questionClaim}
 use Rattle.table.specs.Layout as W
+use Rattle.table.specs.Ranges.{checkTable}
 use Rattle.table.specs.Start.{startWords}
 use Rattle.table.specs.Reading.{readingOf, readingValue}
+use Rattle.table.proofs.Ranges.{accepts}
 use Rattle.waiting.specs.Runs.{Rounds}
 use Rattle.turns.specs.Turn.{kindNumber, turn, runTable}
 use Rattle.turns.specs.Lists.{Call, turnsOf, Event, runEvents, times, IsAnswered, answerAt, answerOf, AllAnswered, Complete}
@@ -80,6 +82,9 @@ module _ (s : List ℕ) (e : Accepted ≡ checkJob s) where
         ∙ answer-run (jobOf s) ok ws start (made-start started) (turns-low s xs start) w k h (omega (arith, z)) (omega (arith, times-are w h, count-after w))
 
     -- the clauses
+    pub on-accepted : Accepted ≡ checkTable (jobOf s) (from s t xs)
+    on-accepted = accepts (jobOf s) (from s t xs) (made-after .range)
+
     pub on-verdicts : (c : ℕ) → c < jobOf s .claims → Complete (from s t xs) c → readingValue (readingOf (W.mark (from s t xs) c)) ≡ byteOf (verdictIn (jobOf s) c)
     on-verdicts c h d = value-of ok made-after c h (complete-mark ok made-after c h d)
 

@@ -1,10 +1,10 @@
 -- What a turn is to the abstract theory, and the claims of a worker in the words and in the state. Assumes nothing.
 --   Outcome j t w r   r is idle, keeps the table, and no step could be made; or r is a step
-use mathlib.Core.Path.{_≡_, _∙_}
+use mathlib.Core.Path.{_≡_, sym, _∙_, subst}
 use mathlib.Core.List.{List}
 use Prim.Native.Nat.{ℕ, _+_, _≤_, _<_}
 use native.Mathlib.Omega.{arith}
-use native.Mathlib.Decide.{decLt}
+use native.Mathlib.Decide.{ℕ-discrete, decLt}
 use mathlib.Core.Logic.{by-cases}
 use lib.ListN.{length}
 use Rattle.job.specs.Job.{Job}
@@ -12,10 +12,12 @@ use Rattle.table.specs.Layout as W
 use Rattle.table.specs.Ranges.{InRange}
 use Rattle.waiting.specs.State.{Own, Done, Newest}
 use Rattle.waiting.specs.Steps.{Step, Ready}
-use Rattle.turns.specs.Turn.{Turned, lits}
+use Rattle.turns.specs.Turn.{Turned, lits, openClaim}
 use Rattle.turns.specs.declared.Kind.the-variants.{Idle}
 use Rattle.turns.proofs.Jobs.{JobOk, lits-length}
-use Rattle.turns.proofs.View.{low-in, low-out, low-pos, nextAt, nextAt-in, nextAt-out, view}
+use Rattle.turns.proofs.View.{low-in, low-out, low-pos, nextAt, nextAt-in, nextAt-out, Alikes, view}
+use Rattle.turns.proofs.Words as X
+use Rattle.turns.proofs.Behind.{Alike, same, below}
 use Rattle.turns.proofs.Cases.{AtNewest, Full}
 
 pub data Outcome (j : Job) (t : List ℕ) (w : ℕ) (r : Turned) : Type 0 where
@@ -46,6 +48,13 @@ module _ (j : Job) (t : List ℕ) where
       by-cases (decLt (W.cursor t c) (length (lits j c)))
       (λ m. absurd (omega (arith, nextAt-in j c (W.cursor t c) m, low-in (nextAt j c (W.cursor t c)) l)))
       (λ m. omega (arith, lits-length j c, R .claim c l .read))
+
+-- a claim that opens is complete neither before nor after
+pub open-alike : (j : Job) → JobOk j → (t : List ℕ) (w : ℕ) → w < j .workers → (b : ℕ) → W.numberWord b < length t → W.mark t b ≡ 0 → Alikes j t (openClaim t w b)
+open-alike j J t w small b long z x h =
+    by-cases (ℕ-discrete x b)
+    (λ e. subst (λ (y : ℕ). Alike (W.mark t y) (W.mark (openClaim t w b) y)) (sym e) (below (omega arith) (omega (arith, X.open-mark t w b long, J .few))))
+    (λ n. same (X.open-marks t w b x n))
 
 module _ (j : Job) (J : JobOk j) (t : List ℕ) {w : ℕ} (small : w < j .workers) where
   pub own-of : {c : ℕ} → c < j .claims → W.mark t c ≡ w + 1 → Own (view j t) w c

@@ -1,5 +1,6 @@
--- Turns in which a claim passes a literal: of a claim complete or its own, of a fresh one, or of another's that is then awaited. Assumes nothing.
-use mathlib.Core.Path.{_≡_, refl, sym, _∙_, ap}
+-- Turns in which a claim passes a literal: of a claim complete or its own, of a fresh one, or of another's that is then awaited;
+-- or skips the rest of its rule. Assumes nothing.
+use mathlib.Core.Path.{_≡_, refl, sym, _∙_, ap, subst}
 use mathlib.Core.Logic.{_⊎_, inl, inr, by-cases}
 use mathlib.Core.Bool.{not}
 use mathlib.Core.List.{List}
@@ -8,22 +9,24 @@ use native.Mathlib.Omega.{arith}
 use native.Mathlib.Decide.{ℕ-discrete}
 use lib.ListN.{length, set, length-set}
 use lib.Dec.{T, T-not}
-use Rattle.job.specs.Job.{Job}
+use Rattle.job.specs.Job.{Job, ruleEnd}
 use Rattle.table.specs.Layout as W
 use Rattle.table.specs.Ranges.{InRange}
 use Rattle.waiting.specs.State.{Own}
 use Rattle.waiting.specs.Steps as S
 use Rattle.turns.specs.Turn.{kindNumber, openClaim, meets}
 use Rattle.turns.specs.declared.Kind.the-variants.{Opened, Waits, Passed}
-use Rattle.turns.proofs.Jobs.{JobOk}
-use Rattle.turns.proofs.View.{low-in, nextAt-in, view}
+use Rattle.turns.proofs.Jobs.{JobOk, lits-length}
+use Rattle.turns.proofs.View.{low-in, nextAt-in, Alikes, view}
 use Rattle.turns.proofs.View as Q
+use Rattle.job.proofs.RuleEnds.{end-more}
+use Rattle.turns.proofs.Behind.{Alike, same, Behind, behind-rest}
 use Rattle.turns.proofs.Edges.{reach-in, in-reach}
-use Rattle.turns.proofs.Cases.{AtLeft, Others, literal, moved}
+use Rattle.turns.proofs.Cases.{AtLeft, Others, literal, moved, skipped, Clear}
 use Rattle.turns.proofs.Words as X
 use Rattle.turns.proofs.Range.{c-low, c-room, b-low}
 use Rattle.turns.proofs.Meets.{within-meets}
-use Rattle.turns.proofs.Outcomes.{Outcome, acts, done-of, of-own, full-next, own-of, newest-view}
+use Rattle.turns.proofs.Outcomes.{Outcome, acts, done-of, of-own, full-next, open-alike, own-of, newest-view}
 
 module _ (j : Job) (J : JobOk j) (t : List ℕ) (R : InRange j t) (w : ℕ) (small : w < j .workers) {n c : ℕ} (at : AtLeft j t w n c) where
   abbrev b : ℕ
@@ -54,17 +57,42 @@ module _ (j : Job) (J : JobOk j) (t : List ℕ) (R : InRange j t) (w : ℕ) (sma
   pub moved-long : length (moved t c) ≡ length t
   moved-long = length-set t (W.cursorWord c) v
 
-  -- any table with the cursors of the one in which c has passed its literal
-  pub moved-passes : (t′ : List ℕ) → ((x : ℕ) → x < j .claims → W.cursor t′ x ≡ W.cursor (moved t c) x) → S.Passes (view j t) (view j t′) c b
-  moved-passes t′ f =
-      Q.passes low (c-room J R small at) refl
-      (f c low ∙ X.same t (W.cursorWord c) v (omega (arith, R .room, low)) ∙ omega arith) (λ x m l. f x l ∙ X.cursor-others j t c v x m)
+  -- any table with the cursors of the one in which c has passed its literal, in which nothing is completed
+  pub moved-passes : Clear j t c → (t′ : List ℕ) → Alikes j t t′ → ((x : ℕ) → x < j .claims → W.cursor t′ x ≡ W.cursor (moved t c) x) → S.Passes (view j t) (view j t′) c b
+  moved-passes free t′ m f =
+      Q.passes J m low (λ x m l. f x l ∙ X.cursor-others j t c v x m) (c-room J R small at) refl free
+      (f c low ∙ X.same t (W.cursorWord c) v (omega (arith, R .room, low)) ∙ omega arith)
+
+  pub moved-alike : Alikes j t (moved t c)
+  moved-alike x l = same (X.cursor-mark j t c v x)
 
   pub moved-claims : S.Claims (view j t) (view j (moved t c))
   moved-claims = Q.claims (λ x l. X.cursor-mark j t c v x) (λ x l. X.cursor-number j t c v x) (X.cursor-opened j t c v)
 
-  pub passes-outcome : (256 ≤ W.mark t b) ⊎ (W.mark t b ≡ w + 1) → Outcome j t w (record { kind = Passed; table = moved t c })
-  passes-outcome p =
+  -- c skips the rest of its rule
+  module _ (back : Behind j t c (W.cursor t c)) where
+    abbrev e : ℕ
+    e = ruleEnd c (j .rules) (W.cursor t c)
+
+    end-up : W.cursor (skipped j t c) c ≡ ruleEnd c (j .rules) (W.cursor t c)
+    end-up = X.same t (W.cursorWord c) e (omega (arith, R .room, low))
+
+    pub skips-outcome : Outcome j t w (record { kind = Passed; table = skipped j t c })
+    skips-outcome =
+        acts (λ e. omega (arith, ap kindNumber e))
+        (S.skipped {b = b}
+        (record {
+          at = at-literal;
+          claims = Q.claims (λ x l. X.cursor-mark j t c e x) (λ x l. X.cursor-number j t c e x) (X.cursor-opened j t c e);
+          workers = Q.workers (λ u l. X.cursor-awaited j t c e low u) (λ u l. X.cursor-answered j t c e low u);
+          literals =
+              Q.skips J (λ x l. same (X.cursor-mark j t c e x)) low (λ x m l. X.cursor-others j t c e x m)
+              (omega (arith, end-up, end-more c (j .rules) (W.cursor t c) (omega (arith, c-room J R small at, lits-length j c))))
+              (λ k g h. behind-rest g (omega (arith, end-up)) back);
+        }))
+
+  pub passes-outcome : (256 ≤ W.mark t b) ⊎ (W.mark t b ≡ w + 1) → Clear j t c → Outcome j t w (record { kind = Passed; table = moved t c })
+  passes-outcome p free =
       acts (λ e. omega (arith, ap kindNumber e))
       (S.passed {b = b}
       (record {
@@ -72,15 +100,15 @@ module _ (j : Job) (J : JobOk j) (t : List ℕ) (R : InRange j t) (w : ℕ) (sma
         to = to p;
         claims = moved-claims;
         workers = Q.workers (λ u l. X.cursor-awaited j t c v low u) (λ u l. X.cursor-answered j t c v low u);
-        literals = moved-passes (moved t c) (λ x l. refl);
+        literals = moved-passes free (moved t c) moved-alike (λ x l. refl);
       }))
     where
       to : (256 ≤ W.mark t b) ⊎ (W.mark t b ≡ w + 1) → S.PassedTo (view j t) w b
       to (inl d) = S.complete (done-of j t b-is-low d)
       to (inr o) = S.PassedTo.own (own-of j J t small b-is-low o)
 
-  pub opens-outcome : W.mark t b ≡ 0 → Outcome j t w (record { kind = Opened; table = openClaim (moved t c) w b })
-  opens-outcome z =
+  pub opens-outcome : W.mark t b ≡ 0 → Clear j t c → Outcome j t w (record { kind = Opened; table = openClaim (moved t c) w b })
+  opens-outcome z free =
       acts (λ e. omega (arith, ap kindNumber e))
       (S.opened {b = b}
       (record {
@@ -92,7 +120,7 @@ module _ (j : Job) (J : JobOk j) (t : List ℕ) (R : InRange j t) (w : ℕ) (sma
         workers =
             Q.workers (λ y m. X.open-awaited u w b j b-is-low y ∙ X.cursor-awaited j t c v low y)
             (λ y m. X.open-answered u w b j b-is-low y ∙ X.cursor-answered j t c v low y);
-        literals = moved-passes (openClaim u w b) (λ x m. by-cases (ℕ-discrete x b) (λ e. rw e same-cursor) (X.open-cursors u w b x));
+        literals = moved-passes free (openClaim u w b) alike (λ x m. by-cases (ℕ-discrete x b) (λ e. rw e same-cursor) (X.open-cursors u w b x));
       }))
     where
       u : List ℕ
@@ -100,6 +128,11 @@ module _ (j : Job) (J : JobOk j) (t : List ℕ) (R : InRange j t) (w : ℕ) (sma
 
       long : W.numberWord b < length (moved t c)
       long = omega (arith, R .room, b-is-low, moved-long)
+
+      alike : Alikes j t (openClaim (moved t c) w b)
+      alike x l =
+          subst (λ (m : ℕ). Alike m (W.mark (openClaim (moved t c) w b) x)) (X.cursor-mark j t c v x)
+          (open-alike j J (moved t c) w small b long (X.cursor-mark j t c v b ∙ z) x l)
 
       -- b is fresh, so it isn't c, and its cursor was 0
       same-cursor : W.cursor (openClaim (moved t c) w b) b ≡ W.cursor (moved t c) b
@@ -121,8 +154,8 @@ module _ (j : Job) (J : JobOk j) (t : List ℕ) (R : InRange j t) (w : ℕ) (sma
         let y = o .other in
         omega arith
 
-    pub waits-outcome : T (not (meets (j .workers) j t w (W.mark t b - 1))) → Outcome j t w (record { kind = Waits; table = set (moved t c) (W.awaitedWord j w) (b + 1) })
-    waits-outcome g =
+    pub waits-outcome : T (not (meets (j .workers) j t w (W.mark t b - 1))) → Clear j t c → Outcome j t w (record { kind = Waits; table = set (moved t c) (W.awaitedWord j w) (b + 1) })
+    waits-outcome g free =
         acts (λ e. omega (arith, ap kindNumber e))
         (S.waits {b = b}
         (record {
@@ -138,5 +171,7 @@ module _ (j : Job) (J : JobOk j) (t : List ℕ) (R : InRange j t) (w : ℕ) (sma
               Q.awaits small (X.same (moved t c) (W.awaitedWord j w) (b + 1) (omega (arith, R .room, moved-long)))
               (λ u n. X.await-others j (moved t c) w (b + 1) u n ∙ X.cursor-awaited j t c v low u)
               (λ u. X.await-answered j (moved t c) w (b + 1) u ∙ X.cursor-answered j t c v low u);
-          literals = moved-passes (set (moved t c) (W.awaitedWord j w) (b + 1)) (X.await-cursor j (moved t c) w (b + 1));
+          literals =
+              moved-passes free (set (moved t c) (W.awaitedWord j w) (b + 1)) (λ x l. same (X.await-mark j (moved t c) w (b + 1) x l ∙ X.cursor-mark j t c v x))
+              (X.await-cursor j (moved t c) w (b + 1));
         }))

@@ -5,14 +5,14 @@ use Prim.Native.Nat.{ℕ, _+_, _≤_, _<_}
 use native.Mathlib.Omega.{arith}
 use lib.ListN.{getD, set}
 use Rattle.base.proofs.Lists.{In}
-use Rattle.job.specs.Job.{Job}
+use Rattle.job.specs.Job.{Job, ruleEnd}
 use Rattle.table.specs.Layout as W
 use Rattle.table.specs.Ranges.{InRange}
 use Rattle.turns.specs.Turn.{Turned, reached, completedMark, openClaim, markAll, turn}
 use Rattle.turns.proofs.Places.{place-low}
 use Rattle.turns.proofs.Jobs.{JobOk}
 use Rattle.turns.proofs.Edges.{in-low}
-use Rattle.turns.proofs.Cases.{literal, moved, taken, asked, Case, wakes, sleeps, rests, answers, opens-asked, waits-asked, completes, sticks, passes, opens, takes, waits, turn-case}
+use Rattle.turns.proofs.Cases.{literal, moved, taken, asked, Case, wakes, sleeps, rests, answers, opens-asked, waits-asked, completes, sticks, passes, skips, opens, takes, waits, turn-case}
 use Rattle.turns.proofs.Words as X
 use Rattle.turns.proofs.Range.{c-low, b-low}
 use Rattle.turns.proofs.Takeover.{taken-in}
@@ -41,11 +41,12 @@ module _ (j : Job) (J : JobOk j) (t : List ℕ) (R : InRange j t) (w : ℕ) (sma
     case-past r (waits-asked a b c) = await-past t (asked j t w + 1)
     case-past r (completes {n = n} a b) = marks-past (completedMark j t) (reached j t n) t (λ c k. in-low j J t c (a .low) k)
     case-past r (sticks a b c) = refl
-    case-past r (passes {c = c} a b) = moved-past c (c-low J R small a)
-    case-past r (opens {c = c} a b) = open-past (moved t c) (literal j t c) (b-low J R small a) ∙ moved-past c (c-low J R small a)
-    case-past r (takes {c = c} a b m) =
+    case-past r (passes {c = c} a b f) = moved-past c (c-low J R small a)
+    case-past r (skips {c = c} a b) = let h = c-low J R small a in X.other t (W.cursorWord c) (ruleEnd c (j .rules) (W.cursor t c)) i (λ e. omega arith)
+    case-past r (opens {c = c} a b f) = open-past (moved t c) (literal j t c) (b-low J R small a) ∙ moved-past c (c-low J R small a)
+    case-past r (takes {c = c} a b m f) =
         marks-past (λ d. w + 1) (taken j t c) (moved t c) (λ d k. taken-in j J t R w small a d k .low) ∙ moved-past c (c-low J R small a)
-    case-past r (waits {c = c} a b m) = await-past (moved t c) (literal j t c + 1) ∙ moved-past c (c-low J R small a)
+    case-past r (waits {c = c} a b m f) = await-past (moved t c) (literal j t c + 1) ∙ moved-past c (c-low J R small a)
 
   pub turn-past : (i : ℕ) → W.used j ≤ i → getD (turn j t w .table) i 0 ≡ getD t i 0
   turn-past i l = case-past i l (turn j t w) (turn-case j t w)

@@ -2,7 +2,9 @@
 --   LitAt j x y         y is the claim of a literal of a rule of x;    led-job j   the job by its literals and questions
 --   rounds              after as many rounds as the bound says, all is answered
 --   answered-idle, idle-answered   all is answered exactly when no worker's turn changes anything
---   only-led, all-led   a claim that isn't fresh is one that a question names or leads to; when all is answered, these are complete
+--   only-led            a claim that isn't fresh is one that a question names or leads to
+--   none-open           when all is answered, it is complete
+--   else-behind         a literal of a complete claim is complete, or stands behind a complete false one
 use mathlib.Core.Path.{_≡_, refl, sym, _∙_, ap, subst}
 use mathlib.Core.Logic.{by-cases}
 use mathlib.Core.List.{List, [], _∷_, List·Memᴰ·head, List·Memᴰ·tail}
@@ -14,18 +16,21 @@ use lib.ListN.{length, getD}
 use Rattle.job.specs.Job.{Job}
 use Rattle.table.specs.Questions.{askedBy, questionClaim}
 use Rattle.table.specs.Layout as W
+use Rattle.waiting.specs.State.{Done, owning}
 use Rattle.waiting.specs.Steps.{Mover}
 use Rattle.waiting.specs.Runs.{bound, Rounds}
 use Rattle.waiting.specs.Led as L
+use Rattle.waiting.proofs.Basics.{owner, has-question}
 use Rattle.waiting.proofs.Rounds.{rounds-answer, step-ready}
 use Rattle.waiting.proofs.Progress.{progress, rest}
-use Rattle.waiting.proofs.Led.{known-keeps, known-start, led-complete}
+use Rattle.waiting.proofs.Led.{known-keeps, known-start}
 use Rattle.turns.specs.Turn.{lits, turn, runTable}
 use Rattle.turns.specs.declared.Kind.the-variants.{Idle}
 use Rattle.turns.proofs.Jobs.{JobOk}
 use Rattle.turns.proofs.View.{low-in, low-pos, nextAt, nextAt-in, nextAt-out, askAt, askAt-in, askAt-out, view}
-use Rattle.turns.proofs.Outcomes.{Outcome, idle, acts, of-done}
-use Rattle.turns.proofs.Starting.{Started, started-view, started-answered}
+use Rattle.turns.proofs.Behind.{Behind, behind?}
+use Rattle.turns.proofs.Outcomes.{Outcome, idle, acts, done-of, of-done, next-full}
+use Rattle.turns.proofs.Starting.{Started, started-view}
 use Rattle.turns.proofs.Runs.{sizes, Made, made-start, finite, asks-left, ranged, outcome, made-turn, Low, made-run, run-of}
 
 pub record LitAt (j : Job) (x y : ℕ) : Type 0 where
@@ -80,9 +85,7 @@ module _ (j : Job) (J : JobOk j) where
   shows t =
       record {
         next = λ {x = x} e. next x e;
-        all = λ {x = x} e l. all x e l;
         asks = λ {w = w} e. asks w e;
-        over = λ {w = w} h e. omega (arith, ask-over j t w h e, low-in (W.answered j t w) h);
       }
     where
       next : (x : ℕ) {y : ℕ} → view j t .next x ≡ suc y → LitAt j x y
@@ -91,12 +94,6 @@ module _ (j : Job) (J : JobOk j) where
           by-cases (decLt (W.cursor t x) (length (lits j x)))
           (λ l. record { at = W.cursor t x; real = l; is = suc-inj (sym (nextAt-in j x (W.cursor t x) l) ∙ sym (p .1) ∙ e); claim = p .0 })
           (λ l. absurd (omega (arith, p .1, e, nextAt-out j x (W.cursor t x) l)))
-
-      all : (x : ℕ) {y : ℕ} → view j t .next x ≡ 0 → LitAt j x y → view j t .Passed x y
-      all x {y} e l =
-          by-cases (decLt (W.cursor t x) (length (lits j x)))
-          (λ m. absurd (omega (arith, e, nextAt-in j x (W.cursor t x) m, low-in (nextAt j x (W.cursor t x)) (l .claim))))
-          (λ m. record { at = l .at; before = omega (arith, l .real); real = l .real; is = l .is; claim = l .claim })
 
       asks : (w : ℕ) {q : ℕ} → view j t .asks w ≡ suc q → (w < j .workers) × (view j t .answered w < length (askedBy j w)) × (questionClaim j w (view j t .answered w) ≡ q)
       asks w {q} e =
@@ -108,12 +105,29 @@ module _ (j : Job) (J : JobOk j) where
                 ∙ suc-inj (sym (askAt-in j w (W.answered j t w) (p .1)) ∙ sym (low-in (askAt j w (W.answered j t w)) (p .0)) ∙ e),
           )
 
+  -- a complete claim has passed all its literals, so each leads, and its claim is complete, or stands behind
+  pub else-behind : (t : List ℕ) → Made j t → (c : ℕ) → c < j .claims → 256 ≤ W.mark t c → (k : ℕ) → k < length (lits j c) → (256 ≤ W.mark t (getD (lits j c) k 0) → ⊥) → Behind j t c k
+  else-behind t M c h d k l n = go (behind? j t c k)
+    where
+      over : Done (view j t) c
+      over = done-of j t h d
+
+      go : Dec (Behind j t c k) → Behind j t c k
+      go (yes b) = b
+      go (no f) =
+          absurd
+          (n
+          (of-done j t
+          (M .inv .closed
+          (record { at = k; before = omega (arith, next-full j t c (M .range) h (M .inv .full over)); real = l; is = refl; claim = h; clear = f })
+          over) .1))
+
   known-turn : (t : List ℕ) → Made j t → (w : ℕ) → w < j .workers → L.Known (led-job j) (view j t) → L.Known (led-job j) (view j (turn j t w .table))
   known-turn t M w h k = go (outcome j J t M w h)
     where
       go : Outcome j t w (turn j t w) → L.Known (led-job j) (view j (turn j t w .table))
       go (idle z e n) = subst (λ u. L.Known (led-job j) (view j u)) (sym e) k
-      go (acts z s) = known-keeps (M .inv) (shows t) k s
+      go (acts z s) = known-keeps (shows t) k s
 
   known-run : (ws t : List ℕ) → Made j t → Low j ws → L.Known (led-job j) (view j t) → L.Known (led-job j) (view j (runTable j t ws))
   unfolding runTable
@@ -130,10 +144,19 @@ module _ (j : Job) (J : JobOk j) where
     M = made-run j J ws t (made-start s) l
 
     known : L.Known (led-job j) (view j u)
-    known = known-run ws t (made-start s) l (known-start (started-view s) (started-answered s))
+    known = known-run ws t (made-start s) l (known-start (started-view s))
 
     pub only-led : (c : ℕ) → c < j .claims → 0 < W.mark u c → L.Led (led-job j) c
     only-led c h d = known .named (omega (arith, low-in (W.mark u c) h))
 
-    pub all-led : ((w : ℕ) → w < j .workers → W.answered j u w ≡ length (askedBy j w)) → (c : ℕ) → L.Led (led-job j) c → (c < j .claims) × (256 ≤ W.mark u c)
-    all-led z c p = of-done j u (led-complete (M .inv) (shows u) known (λ w h. over-ask j u w h (omega (arith, z w h))) p)
+    -- when all is answered nobody owns anything
+    pub none-open : ((w : ℕ) → w < j .workers → W.answered j u w ≡ length (askedBy j w)) → (c : ℕ) → c < j .claims → 0 < W.mark u c → 256 ≤ W.mark u c
+    none-open z c h d =
+        by-cases (decLt (W.mark u c) 256)
+        (λ l.
+        let e = low-in (W.mark u c) h in
+        let o = owner {s = view j u} {x = c} (omega arith) (omega arith) in
+        let q = has-question (M .inv .asked (owning (o .1))) in
+        let w = M .inv .workers (o .1) in
+        absurd (omega (arith, q .1, over-ask j u (o .0) w (omega (arith, z (o .0) w)))))
+        (λ l. omega arith)

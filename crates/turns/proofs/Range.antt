@@ -16,8 +16,9 @@ use Rattle.turns.specs.Turn.{Turned, lits, reached, completedMark, markA
 use Rattle.turns.proofs.Tests.{not-eq}
 use Rattle.turns.proofs.Jobs.{JobOk, lits-length}
 use Rattle.turns.proofs.Places.{place-low}
+use Rattle.job.proofs.RuleEnds.{end-most}
 use Rattle.turns.proofs.Edges.{in-low}
-use Rattle.turns.proofs.Cases.{AtLeft, literal, moved, taken, asked, Case, wakes, sleeps, rests, answers, opens-asked, waits-asked, completes, sticks, passes, opens, takes, waits, turn-case}
+use Rattle.turns.proofs.Cases.{AtLeft, literal, moved, skipped, taken, asked, Case, wakes, sleeps, rests, answers, opens-asked, waits-asked, completes, sticks, passes, skips, opens, takes, waits, turn-case}
 use Rattle.turns.proofs.Words as X
 use Rattle.turns.proofs.RangeStores.{Fits, store-range, marks-range, open-range}
 
@@ -101,6 +102,12 @@ module _ {j : Job} (J : JobOk j) {t : List ℕ} (R : InRange j t) {w : ℕ} (sma
     pub moved-range : InRange j (moved t c)
     moved-range = store-range R (cursor-fits c-low (λ e. omega (arith, at .its)) (omega (arith, c-room)))
 
+    skipped-range : InRange j (skipped j t c)
+    skipped-range =
+        store-range R
+        (cursor-fits c-low (λ e. omega (arith, at .its))
+        (omega (arith, end-most c (j .rules) (W.cursor t c) (omega (arith, c-room, lits-length j c)), lits-length j c)))
+
     took-range : InRange j (markAll (λ d. w + 1) (taken j t c) (moved t c))
     took-range =
         marks-range (λ d. w + 1) (taken j t c) (moved t c) moved-range
@@ -125,10 +132,11 @@ module _ {j : Job} (J : JobOk j) {t : List ℕ} (R : InRange j t) {w : ℕ} (sma
       marks-range (completedMark j t) (reached j t n) t R (λ d i. (in-low j J t d (a .low) i, λ e. omega (arith, b d i .0)))
       (λ d. (λ e. omega (arith, mark-range j t d .0), inr (mark-range j t d)))
   case-range r (sticks a b c) = R
-  case-range r (passes a b) = moved-range a
-  case-range r (opens {c = c} a b) = open-range (moved-range a) small (b-low a) (X.cursor-mark j t c (W.cursor t c + 1) (literal j t c) ∙ b)
-  case-range r (takes a b m) = took-range a
-  case-range r (waits a b m) = store-range (moved-range a) (await-fits small (omega (arith, b-low a)))
+  case-range r (passes a b f) = moved-range a
+  case-range r (skips a b) = skipped-range a
+  case-range r (opens {c = c} a b f) = open-range (moved-range a) small (b-low a) (X.cursor-mark j t c (W.cursor t c + 1) (literal j t c) ∙ b)
+  case-range r (takes a b m f) = took-range a
+  case-range r (waits a b m f) = store-range (moved-range a) (await-fits small (omega (arith, b-low a)))
 
 pub turn-in-range : {j : Job} {t : List ℕ} {w : ℕ} → JobOk j → InRange j t → w < j .workers → InRange j (turn j t w .table)
 turn-in-range {j} {t} {w} J R small = case-range J R small (turn j t w) (turn-case j t w)

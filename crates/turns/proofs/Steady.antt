@@ -43,11 +43,13 @@ module _ {j : Job} where
   await-steady t w v small =
       marks-steady (X.await-mark j t w v) (X.await-answered j t w v) (λ k. X.other t (W.awaitedWord j w) v (W.answerWord j k) (λ e. omega arith))
 
-  pub moved-steady : (t : List ℕ) (c : ℕ) → c < j .claims → Steady j t (moved t c)
-  moved-steady t c low =
-      let v = W.cursor t c + 1 in
+  pub cursor-steady : (t : List ℕ) (c v : ℕ) → c < j .claims → Steady j t (set t (W.cursorWord c) v)
+  cursor-steady t c v low =
       marks-steady (λ x h. X.cursor-mark j t c v x) (λ u. X.cursor-answered j t c v low u)
       (λ k. X.other t (W.cursorWord c) v (W.answerWord j k) (λ e. omega arith))
+
+  pub moved-steady : (t : List ℕ) (c : ℕ) → c < j .claims → Steady j t (moved t c)
+  moved-steady t c low = cursor-steady t c (W.cursor t c + 1) low
 
   pub open-steady : (t : List ℕ) (w b : ℕ) → w < 32 → b < j .claims → W.numberWord b < length t → W.mark t b ≡ 0 → Steady j t (openClaim t w b)
   open-steady t w b few low long z =

@@ -1,5 +1,6 @@
 -- A turn in which a worker takes over what the claim it works on reaches. Assumes nothing.
 use mathlib.Core.Path.{_≡_, refl, _∙_, ap}
+use mathlib.Core.Logic.{by-cases}
 use mathlib.Core.Bool.{not}
 use mathlib.Core.List.{List}
 use Prim.Native.Nat.{ℕ, _+_, _-_, _<_}
@@ -19,15 +20,16 @@ use Rattle.turns.specs.Turn.{kindNumber, reached, markAll, meets}
 use Rattle.turns.specs.declared.Kind.the-variants.{Took}
 use Rattle.turns.proofs.Tests.{not-eq, eq-not}
 use Rattle.turns.proofs.Jobs.{JobOk}
-use Rattle.turns.proofs.View.{low-in, low-cong, low-pos, view}
+use Rattle.turns.proofs.View.{low-in, low-cong, low-pos, Alikes, view}
 use Rattle.turns.proofs.View as Q
+use Rattle.turns.proofs.Behind.{same, below}
 use Rattle.turns.proofs.Edges.{reach-in, in-reach, in-low, in-open}
-use Rattle.turns.proofs.Cases.{AtLeft, Others, literal, moved, taken}
+use Rattle.turns.proofs.Cases.{AtLeft, Others, literal, moved, Clear, taken}
 use Rattle.turns.proofs.Words as X
 use Rattle.turns.proofs.Range.{c-low, b-low}
 use Rattle.turns.proofs.Meets.{owner-low, meets-within}
 use Rattle.turns.proofs.Outcomes.{Outcome, acts}
-use Rattle.turns.proofs.PassOutcome.{at-literal, moved-long, moved-passes, moved-claims, held, other-holder}
+use Rattle.turns.proofs.PassOutcome.{at-literal, moved-long, moved-passes, moved-alike, moved-claims, held, other-holder}
 
 -- who is taken: open, and reached once c has passed its literal
 pub record Taken (j : Job) (t : List ℕ) (c x : ℕ) : Type 0 where
@@ -62,10 +64,10 @@ module _ (j : Job) (J : JobOk j) (t : List ℕ) (R : InRange j t) (w : ℕ) (sma
         still = omega (arith, in-open j J u x low (k .0) (omega (arith, X.cursor-mark j t c v c, at .its, J .few)), X.cursor-mark j t c v x);
       }
 
-  module _ (o : Others t w b) where
+  module _ (o : Others t w b) (free : Clear j t c) where
     to-plus : (x y : ℕ) → Edge (view j u) x y → Plus (Edge (view j t)) c b x y
     to-plus x y e =
-        go (moved-passes j J t R w small at u (λ x l. refl) .more (e .passed)) (omega (arith, e .ahead, moved-claims j J t R w small at .marks y))
+        go (moved-passes j J t R w small at free u (moved-alike j J t R w small at) (λ x l. refl) .more (e .passed)) (omega (arith, e .ahead, moved-claims j J t R w small at .marks y))
       where
         go : {x y : ℕ} → Plus (view j t .Passed) c b x y → view j t .mark y < 256 → Plus (Edge (view j t)) c b x y
         go (old p) l = old (record { passed = p; ahead = l })
@@ -74,12 +76,12 @@ module _ (j : Job) (J : JobOk j) (t : List ℕ) (R : InRange j t) (w : ℕ) (sma
     of-plus : (x y : ℕ) → Plus (Edge (view j t)) c b x y → Edge (view j u) x y
     of-plus x y (old e) =
         record {
-          passed = moved-passes j J t R w small at u (λ x l. refl) .less (old (e .passed));
+          passed = moved-passes j J t R w small at free u (moved-alike j J t R w small at) (λ x l. refl) .less (old (e .passed));
           ahead = omega (arith, e .ahead, moved-claims j J t R w small at .marks y);
         }
     of-plus x y new =
         record {
-          passed = moved-passes j J t R w small at u (λ x l. refl) .less new;
+          passed = moved-passes j J t R w small at free u (moved-alike j J t R w small at) (λ x l. refl) .less new;
           ahead = omega (arith, held j J t R w small at o .still, moved-claims j J t R w small at .marks b);
         }
 
@@ -117,9 +119,15 @@ module _ (j : Job) (J : JobOk j) (t : List ℕ) (R : InRange j t) (w : ℕ) (sma
           workers =
               Q.workers (λ y l. X.marks-awaited j (λ x. w + 1) cs u low-cs y ∙ X.cursor-awaited j t c v low y)
               (λ y l. X.marks-answered j (λ x. w + 1) cs u low-cs y ∙ X.cursor-answered j t c v low y);
-          literals = moved-passes j J t R w small at (markAll (λ x. w + 1) cs u) (λ x l. X.marks-cursor j (λ x. w + 1) cs u low-cs x);
+          literals = moved-passes j J t R w small at free (markAll (λ x. w + 1) cs u) alike (λ x l. X.marks-cursor j (λ x. w + 1) cs u low-cs x);
         }))
       where
+        alike : Alikes j t (markAll (λ x. w + 1) cs u)
+        alike x l =
+            by-cases (t? (isIn x cs))
+            (λ i. below (taken-in x i .still) (omega (arith, X.marks-in (λ x. w + 1) cs u x (omega (arith, R .room, moved-long j J t R w small at, l)) i, J .few)))
+            (λ n. same (X.marks-out j (λ x. w + 1) cs u (λ y i. taken-in y i .low) x n ∙ X.cursor-mark j t c v x))
+
         low-cs : (y : ℕ) → In y cs → y < j .claims
         low-cs y i = taken-in y i .low
 

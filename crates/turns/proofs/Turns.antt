@@ -20,7 +20,7 @@ use Rattle.turns.proofs.Jobs.{JobOk}
 use Rattle.turns.proofs.View.{low-in, low-cong, view}
 use Rattle.turns.proofs.View as Q
 use Rattle.turns.proofs.Edges.{reach-in, in-reach, in-low}
-use Rattle.turns.proofs.Cases.{AtNewest, Full, Case, wakes, sleeps, rests, answers, opens-asked, waits-asked, completes, sticks, passes, opens, takes, waits, turn-case}
+use Rattle.turns.proofs.Cases.{AtNewest, Full, Case, wakes, sleeps, rests, answers, opens-asked, waits-asked, completes, sticks, passes, skips, opens, takes, waits, turn-case}
 use Rattle.turns.proofs.Words as X
 use Rattle.turns.proofs.Range.{mark-range}
 use Rattle.turns.proofs.Outcomes.{Outcome, idle, acts, of-own, full-next, next-full, own-of, newest-view}
@@ -49,7 +49,7 @@ module _ (j : Job) (J : JobOk j) (t : List ℕ) (R : InRange j t) (w : ℕ) (sma
           opened = X.marks-opened j f r t low-r;
           numbers = λ x. low-cong _ _ (λ l. X.marks-number j f r t low-r x);
           workers = Q.workers (λ u l. X.marks-awaited j f r t low-r u) (λ u l. X.marks-answered j f r t low-r u);
-          literals = Q.stays (λ x l. X.marks-cursor j f r t low-r x);
+          literals = Q.fades J (λ x l d. X.marks-out j f r t low-r x (λ i. omega (arith, all x i .0, J .few))) (λ x l. X.marks-cursor j f r t low-r x);
         }))
       where
         f : ℕ → ℕ
@@ -100,10 +100,11 @@ module _ (j : Job) (J : JobOk j) (t : List ℕ) (R : InRange j t) (w : ℕ) (sma
   case-outcome I r (waits-asked a b c) = A.waits-outcome j J t R w small a b c
   case-outcome I r (completes a b) = completes-outcome a b
   case-outcome I r (sticks a b c) = sticks-outcome a I b c
-  case-outcome I r (passes a b) = P.passes-outcome j J t R w small a b
-  case-outcome I r (opens a b) = P.opens-outcome j J t R w small a b
-  case-outcome I r (takes a b c) = takes-outcome j J t R w small a b c
-  case-outcome I r (waits a b c) = P.waits-outcome j J t R w small a b c
+  case-outcome I r (passes a b f) = P.passes-outcome j J t R w small a b f
+  case-outcome I r (skips a b) = P.skips-outcome j J t R w small a b
+  case-outcome I r (opens a b f) = P.opens-outcome j J t R w small a b f
+  case-outcome I r (takes a b c f) = takes-outcome j J t R w small a b f c
+  case-outcome I r (waits a b c f) = P.waits-outcome j J t R w small a b c f
 
   pub turn-outcome : Inv (view j t) (j .workers) → Outcome j t w (turn j t w)
   turn-outcome I = case-outcome I (turn j t w) (turn-case j t w)

@@ -1,12 +1,13 @@
 -- A table of words as the state that the abstract theory speaks of, and what stores do to it. Assumes nothing.
 --   low n i v     v where i is below n, else 0
 --   nextAt, askAt the claim of c's literal k, and of w's question n, + 1; 0 where there is none
---   PassedAt      y is the claim of a literal that x has passed
+--   PassedAt      y is the claim of a literal that x has passed, behind no complete false one; EarlierAt   and x has moved on since
+--   Alikes        marks before and after a turn that completes nothing
 --   view j t      the state
 use mathlib.Core.Path.{_≡_, refl, sym, _∙_, ap, subst}
 use mathlib.Core.Logic.{by-cases}
 use mathlib.Core.List.{List}
-use Prim.Native.Nat.{ℕ, suc, _+_, _<_}
+use Prim.Native.Nat.{ℕ, suc, _+_, _≤_, _<_}
 use native.Mathlib.Omega.{arith}
 use native.Mathlib.Decide.{ℕ-discrete, decLt}
 use lib.ListN.{length, getD}
@@ -14,12 +15,15 @@ use lib.Dec.{ltb, ltb→lt, lt→ltb}
 use Rattle.base.specs.Choose.{pick}
 use Rattle.base.specs.Graph.{Plus, old, new}
 use Rattle.base.proofs.Choose.{pick-yes, pick-no}
-use Rattle.job.specs.Job.{Job}
+use Rattle.job.specs.Job.{Job, claimOf}
 use Rattle.table.specs.Questions.{askedBy, questionClaim}
 use Rattle.table.specs.Layout as W
 use Rattle.waiting.specs.State.{State}
-use Rattle.waiting.specs.Steps.{Stays, Passes, Claims, Opens, Awaits, Workers}
-use Rattle.turns.specs.Turn.{lits}
+use Rattle.waiting.specs.State.{Done}
+use Rattle.waiting.specs.Steps.{Stays, Left, ago, now, Passes, Skips, Faded, leads, behind, Fades, Claims, Opens, Awaits, Workers}
+use Rattle.turns.specs.Turn.{lits, litAt}
+use Rattle.turns.proofs.Jobs.{JobOk}
+use Rattle.turns.proofs.Behind.{Alike, alike-back, failed-done, failed-same, claim-lit, Behind, behind?, behind-rest, behind-kept, behind-alike}
 
 pub low : ℕ → ℕ → ℕ → ℕ
 low n i v = pick (ltb i n) v 0
@@ -68,6 +72,14 @@ pub record PassedAt (j : Job) (t : List ℕ) (x y : ℕ) : Type 0 where
   pub real : at < length (lits j x)
   pub is : getD (lits j x) at 0 ≡ y
   pub claim : x < j .claims
+  pub clear : Behind j t x at → ⊥
+
+pub record EarlierAt (j : Job) (t : List ℕ) (x y : ℕ) : Type 0 where
+  pub literal : PassedAt j t x y
+  pub since : suc (literal .at) < W.cursor t x
+
+abbrev pub Alikes : Job → List ℕ → List ℕ → Type 0
+Alikes j t t′ = (x : ℕ) → x < j .claims → Alike (W.mark t x) (W.mark t′ x)
 
 abbrev pub view : Job → List ℕ → State
 view j t =
@@ -81,24 +93,89 @@ view j t =
       cursor = λ c. low (j .claims) c (W.cursor t c);
       next = λ c. low (j .claims) c (nextAt j c (W.cursor t c));
       Passed = PassedAt j t;
+      Earlier = EarlierAt j t;
+      sooner = λ e. e .literal;
     }
 
 module _ {j : Job} {t t′ : List ℕ} where
-  -- the cursor of t′ is no shorter
-  longer : {x y : ℕ} (p : PassedAt j t x y) → p .at < W.cursor t′ x → PassedAt j t′ x y
-  longer p l = record { at = p .at; before = l; real = p .real; is = p .is; claim = p .claim }
+  -- the cursor of t′ is past it
+  abbrev longer : {x y : ℕ} (p : PassedAt j t x y) → p .at < W.cursor t′ x → (Behind j t′ x (p .at) → ⊥) → PassedAt j t′ x y
+  longer p l f = record { at = p .at; before = l; real = p .real; is = p .is; claim = p .claim; clear = f }
 
-module _ {j : Job} {t t′ : List ℕ} where
+module _ {j : Job} (J : JobOk j) {t t′ : List ℕ} (marks : Alikes j t t′) where
+  still-clear : {x y : ℕ} (p : PassedAt j t x y) → Behind j t′ x (p .at) → ⊥
+  still-clear p b = p .clear (behind-alike J (λ x h. alike-back (marks x h)) (omega (arith, p .real)) b)
+
+  abbrev over : {x y : ℕ} (p : PassedAt j t x y) → p .at < W.cursor t′ x → PassedAt j t′ x y
+  over p l = longer p l (still-clear p)
+
+module _ {j : Job} (J : JobOk j) {t t′ : List ℕ} where
   -- no cursor moves
-  pub stays : ((c : ℕ) → c < j .claims → W.cursor t′ c ≡ W.cursor t c) → Stays (view j t) (view j t′)
-  stays f =
+  pub stays : Alikes j t t′ → ((c : ℕ) → c < j .claims → W.cursor t′ c ≡ W.cursor t c) → Stays (view j t) (view j t′)
+  stays m f =
       record {
-        more = λ {x = x} p. longer p (omega (arith, p .before, f x (p .claim)));
-        less = λ {x = x} p. longer p (omega (arith, p .before, f x (p .claim)));
+        more = λ {x = x} p. over J (λ x h. alike-back (m x h)) p (omega (arith, p .before, f x (p .claim)));
+        less = λ {x = x} p. over J m p (omega (arith, p .before, f x (p .claim)));
+        earlier = λ {x = x} p.
+            let q = p .literal in
+            record { literal = over J (λ x h. alike-back (m x h)) q (omega (arith, q .before, f x (q .claim))); since = omega (arith, p .since, f x (q .claim)) };
         nexts = λ c. low-cong _ _ (λ h. ap (nextAt j c) (f c h));
         cursors = λ c. low-cong _ _ (f c);
       }
 
+  -- no cursor moves, and complete marks stay
+  module _ (kept : (x : ℕ) → x < j .claims → 256 ≤ W.mark t x → W.mark t′ x ≡ W.mark t x) (f : (c : ℕ) → c < j .claims → W.cursor t′ c ≡ W.cursor t c) where
+    abbrev fade-more : {x y : ℕ} → PassedAt j t′ x y → PassedAt j t x y
+    fade-more {x} p =
+        longer p (omega (arith, p .before, f x (p .claim))) (λ b. p .clear (behind-kept J kept (omega (arith, p .real)) b))
+
+    -- the literal that it stands behind now is one that was clear, and its claim was not complete
+    fade-behind : {x y : ℕ} (p : PassedAt j t x y) → Behind j t′ x (p .at) → Faded (view j t) (view j t′) x y
+    fade-behind {x} p b =
+        let z = getD (lits j x) (b .at) 0 in
+        let h : getD (lits j x) (b .at) 0 < j .claims = J .literal x (b .at) (omega (arith, b .before, p .real)) in
+        let e = claim-lit j x (b .at) in
+        let d : 256 ≤ W.mark t′ z = subst (λ (v : ℕ). 256 ≤ W.mark t′ v) (sym e) (failed-done t′ (litAt j x (b .at)) (b .fails)) in
+        let q : PassedAt j t x z =
+        record {
+          at = b .at;
+          before = omega (arith, b .before, p .before);
+          real = omega (arith, b .before, p .real);
+          is = refl;
+          claim = p .claim;
+          clear = λ a. p .clear (behind-rest (omega (arith, b .before)) (b .within) a);
+        } in
+        behind {z = z} (record { literal = q; since = omega (arith, b .before, p .before) })
+        (by-cases (decLt (W.mark t z) 256) (λ l. omega (arith, low-in (W.mark t z) h, l))
+        (λ l.
+        absurd
+        (p .clear
+        (record {
+          at = b .at;
+          before = b .before;
+          fails = failed-same t′ t (litAt j x (b .at)) (sym (subst (λ (v : ℕ). W.mark t′ v ≡ W.mark t v) e (kept z h (omega arith)))) (b .fails);
+          within = b .within;
+        }))))
+        (record { over = omega (arith, low-in (W.mark t′ z) h, d) })
+
+    fade-less : {x y : ℕ} → PassedAt j t x y → Faded (view j t) (view j t′) x y
+    fade-less {x} {y} p = go (behind? j t′ x (p .at))
+      where
+        go : Dec (Behind j t′ x (p .at)) → Faded (view j t) (view j t′) x y
+        go (yes b) = fade-behind p b
+        go (no n) = leads (longer p (omega (arith, p .before, f x (p .claim))) n)
+
+    pub fades : Fades (view j t) (view j t′)
+    fades =
+        record {
+          more = λ p. fade-more p;
+          less = λ p. fade-less p;
+          earlier = λ {x = x} p. record { literal = fade-more (p .literal); since = omega (arith, p .since, f x (p .literal .claim)) };
+          nexts = λ c. low-cong _ _ (λ h. ap (nextAt j c) (f c h));
+          cursors = λ c. low-cong _ _ (f c);
+        }
+
+module _ {j : Job} {t t′ : List ℕ} where
   -- no word of a claim but its cursor changes
   pub claims : ((c : ℕ) → c < j .claims → W.mark t′ c ≡ W.mark t c) → ((c : ℕ) → c < j .claims → W.number t′ c ≡ W.number t c) → W.opened t′ ≡ W.opened t → Claims (view j t) (view j t′)
   claims f g e = record { marks = λ c. low-cong _ _ (f c); opened = e; numbers = λ c. low-cong _ _ (g c) }
@@ -110,46 +187,6 @@ module _ {j : Job} {t t′ : List ℕ} where
         asks = λ w. low-cong _ _ (λ h. ap (askAt j w) (g w h));
         answers = λ w. low-cong _ _ (g w);
       }
-
-  -- c's cursor moves over a literal of b
-  module _ {c b : ℕ} (h : c < j .claims) (here : W.cursor t c < length (lits j c)) (b-is : getD (lits j c) (W.cursor t c) 0 ≡ b) (up : W.cursor t′ c ≡ suc (W.cursor t c)) (f : (x : ℕ) → (x ≡ c → ⊥) → x < j .claims → W.cursor t′ x ≡ W.cursor t x) where
-    pass-more : {x y : ℕ} → PassedAt j t′ x y → Plus (PassedAt j t) c b x y
-    pass-more {x} {y} p = go (ℕ-discrete x c)
-      where
-        last : x ≡ c → Dec (p .at ≡ W.cursor t c) → Plus (PassedAt j t) c b x y
-        last e (yes a) =
-            let z : getD (lits j c) (W.cursor t c) 0 ≡ y = subst (λ k. getD (lits j c) k 0 ≡ y) a (subst (λ x. getD (lits j x) (p .at) 0 ≡ y) e (p .is)) in
-            let q : b ≡ y = sym b-is ∙ z in
-            subst (λ y. Plus (PassedAt j t) c b x y) q (subst (λ x. Plus (PassedAt j t) c b x b) (sym e) new)
-        last e (no n) =
-            let z : W.cursor t′ x ≡ suc (W.cursor t c) = rw e up in
-            let u : W.cursor t x ≡ W.cursor t c = rw e refl in
-            old {x = x} {y = y} (longer p (omega (arith, p .before)))
-
-        go : Dec (x ≡ c) → Plus (PassedAt j t) c b x y
-        go (yes e) = last e (ℕ-discrete (p .at) (W.cursor t c))
-        go (no n) = old {x = x} {y = y} (longer p (omega (arith, p .before, f x n (p .claim))))
-
-    pass-less : {x y : ℕ} → Plus (PassedAt j t) c b x y → PassedAt j t′ x y
-    pass-less new = record { at = W.cursor t c; before = omega (arith, up); real = here; is = b-is; claim = h }
-    pass-less {x} {y} (old p) = go (ℕ-discrete x c)
-      where
-        go : Dec (x ≡ c) → PassedAt j t′ x y
-        go (yes e) =
-            let z : W.cursor t′ x ≡ suc (W.cursor t c) = rw e up in
-            let u : W.cursor t x ≡ W.cursor t c = rw e refl in
-            longer p (omega (arith, p .before))
-        go (no n) = longer p (omega (arith, p .before, f x n (p .claim)))
-
-    pub passes : Passes (view j t) (view j t′) c b
-    passes =
-        record {
-          more = λ p. pass-more p;
-          less = λ p. pass-less p;
-          nexts = λ x n. low-cong _ _ (λ l. ap (nextAt j x) (f x n l));
-          cursor = omega (arith, low-in (W.cursor t′ c) h, low-in (W.cursor t c) h, up);
-          cursors = λ x n. low-cong _ _ (f x n);
-        }
 
   pub opens : {w b : ℕ} → b < j .claims → W.mark t b ≡ 0 → W.mark t′ b ≡ w + 1 → ((c : ℕ) → (c ≡ b → ⊥) → W.mark t′ c ≡ W.mark t c) → W.opened t′ ≡ W.opened t + 1 → W.number t′ b ≡ W.opened t + 1 → ((c : ℕ) → (c ≡ b → ⊥) → W.number t′ c ≡ W.number t c) → Opens (view j t) (view j t′) w b
   opens {w} {b} h z m f o n g =
@@ -170,3 +207,101 @@ module _ {j : Job} {t t′ : List ℕ} where
         asks = λ u. low-cong _ _ (λ l. ap (askAt j u) (g u));
         answers = λ u. low-cong _ _ (λ l. g u);
       }
+
+-- c's cursor moves on
+module _ {j : Job} (J : JobOk j) {t t′ : List ℕ} (marks : Alikes j t t′) {c : ℕ} (h : c < j .claims)
+    (f : (x : ℕ) → (x ≡ c → ⊥) → x < j .claims → W.cursor t′ x ≡ W.cursor t x) where
+  -- what was passed then, seen from the table after, and c has moved on since
+  module _ (m : (y : ℕ) (p : PassedAt j t′ c y) → suc (p .at) < W.cursor t′ c → PassedAt j t c y) where
+    left-at : {x y : ℕ} → EarlierAt j t′ x y → Left (view j t) c x y
+    left-at {x} {y} p = go (ℕ-discrete x c)
+      where
+        go : Dec (x ≡ c) → Left (view j t) c x y
+        go (yes e) = let q = subst (λ x. EarlierAt j t′ x y) e p in now e (m y (q .literal) (q .since))
+        go (no n) =
+            let q = p .literal in
+            ago (record { literal = over J (λ x h. alike-back (marks x h)) q (omega (arith, q .before, f x n (q .claim))); since = omega (arith, p .since, f x n (q .claim)) })
+
+  -- over a literal of b, which leads
+  module _ {b : ℕ} (here : W.cursor t c < length (lits j c)) (b-is : getD (lits j c) (W.cursor t c) 0 ≡ b) (clear : Behind j t c (W.cursor t c) → ⊥) (up : W.cursor t′ c ≡ suc (W.cursor t c)) where
+    pass-more : {x y : ℕ} → PassedAt j t′ x y → Plus (PassedAt j t) c b x y
+    pass-more {x} {y} p = go (ℕ-discrete x c)
+      where
+        last : x ≡ c → Dec (p .at ≡ W.cursor t c) → Plus (PassedAt j t) c b x y
+        last e (yes a) =
+            let z : getD (lits j c) (W.cursor t c) 0 ≡ y = subst (λ k. getD (lits j c) k 0 ≡ y) a (subst (λ x. getD (lits j x) (p .at) 0 ≡ y) e (p .is)) in
+            let q : b ≡ y = sym b-is ∙ z in
+            subst (λ y. Plus (PassedAt j t) c b x y) q (subst (λ x. Plus (PassedAt j t) c b x b) (sym e) new)
+        last e (no n) =
+            let z : W.cursor t′ x ≡ suc (W.cursor t c) = rw e up in
+            let u : W.cursor t x ≡ W.cursor t c = rw e refl in
+            old {x = x} {y = y} (over J (λ x h. alike-back (marks x h)) p (omega (arith, p .before)))
+
+        go : Dec (x ≡ c) → Plus (PassedAt j t) c b x y
+        go (yes e) = last e (ℕ-discrete (p .at) (W.cursor t c))
+        go (no n) = old {x = x} {y = y} (over J (λ x h. alike-back (marks x h)) p (omega (arith, p .before, f x n (p .claim))))
+
+    pass-less : {x y : ℕ} → Plus (PassedAt j t) c b x y → PassedAt j t′ x y
+    pass-less new =
+        record {
+          at = W.cursor t c;
+          before = omega (arith, up);
+          real = here;
+          is = b-is;
+          claim = h;
+          clear = λ a. clear (behind-alike J (λ x h. alike-back (marks x h)) (omega arith) a);
+        }
+    pass-less {x} {y} (old p) = go (ℕ-discrete x c)
+      where
+        go : Dec (x ≡ c) → PassedAt j t′ x y
+        go (yes e) =
+            let z : W.cursor t′ x ≡ suc (W.cursor t c) = rw e up in
+            let u : W.cursor t x ≡ W.cursor t c = rw e refl in
+            over J marks p (omega (arith, p .before))
+        go (no n) = over J marks p (omega (arith, p .before, f x n (p .claim)))
+
+    pub passes : Passes (view j t) (view j t′) c b
+    passes =
+        record {
+          more = λ p. pass-more p;
+          less = λ p. pass-less p;
+          earlier = λ p. left-at (λ y q l. over J (λ x h. alike-back (marks x h)) q (omega (arith, up, l))) p;
+          nexts = λ x n. low-cong _ _ (λ l. ap (nextAt j x) (f x n l));
+          cursor = omega (arith, low-in (W.cursor t′ c) h, low-in (W.cursor t c) h, up);
+          cursors = λ x n. low-cong _ _ (f x n);
+        }
+
+  -- over literals that stand behind a complete false one
+  module _ (up : W.cursor t c < W.cursor t′ c) (rest : (k : ℕ) → W.cursor t c ≤ k → k < W.cursor t′ c → Behind j t c k) where
+    skip-at : {y : ℕ} → PassedAt j t′ c y → PassedAt j t c y
+    skip-at p =
+        let q : Behind j t c (p .at) → ⊥ = still-clear J (λ x h. alike-back (marks x h)) p in
+        longer p
+        (by-cases (decLt (p .at) (W.cursor t c)) (λ l. l) (λ l. absurd (q (rest (p .at) (omega arith) (p .before))))) q
+
+    skip-more : {x y : ℕ} → PassedAt j t′ x y → PassedAt j t x y
+    skip-more {x} {y} p = go (ℕ-discrete x c)
+      where
+        go : Dec (x ≡ c) → PassedAt j t x y
+        go (yes e) = subst (λ x. PassedAt j t x y) (sym e) (skip-at (subst (λ x. PassedAt j t′ x y) e p))
+        go (no n) = over J (λ x h. alike-back (marks x h)) p (omega (arith, p .before, f x n (p .claim)))
+
+    skip-less : {x y : ℕ} → PassedAt j t x y → PassedAt j t′ x y
+    skip-less {x} {y} p = go (ℕ-discrete x c)
+      where
+        go : Dec (x ≡ c) → PassedAt j t′ x y
+        go (yes e) =
+            let z : W.cursor t x < W.cursor t′ x = rw e up in
+            over J marks p (omega (arith, p .before))
+        go (no n) = over J marks p (omega (arith, p .before, f x n (p .claim)))
+
+    pub skips : Skips (view j t) (view j t′) c
+    skips =
+        record {
+          more = λ p. skip-more p;
+          less = λ p. skip-less p;
+          earlier = λ p. left-at (λ y q l. skip-at q) p;
+          nexts = λ x n. low-cong _ _ (λ l. ap (nextAt j x) (f x n l));
+          cursor = omega (arith, low-in (W.cursor t′ c) h, low-in (W.cursor t c) h, up);
+          cursors = λ x n. low-cong _ _ (f x n);
+        }

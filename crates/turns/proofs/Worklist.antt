@@ -4,10 +4,10 @@
 --   visit-there, -push   one claim met, by the tests that the code makes
 --   visit-room, push-room   where there is room on the stack
 --   visits-grown         the claims bs met, in order
---   Expanding            a loop over a cursor's claims, with its laws: expanding-start, -more, -done
-use Prim.Native.Nat.{ℕ, _+_, _-_, _≤_, _<_}
+--   Expanding            a loop over a cursor's claims, with its laws: expanding-start, -less, -more, -done
+use Prim.Native.Nat.{ℕ, suc, _+_, _-_, _≤_, _<_}
 use mathlib.Core.Path.{_≡_, refl, sym, _∙_, ap, subst, subst⁻¹}
-use mathlib.Core.Bool.{true, false, not}
+use mathlib.Core.Bool.{Bool, true, false, not}
 use mathlib.Core.List.{List, [], _∷_}
 use mathlib.Core.Logic.{by-cases}
 use native.Mathlib.Omega.{arith}
@@ -17,19 +17,17 @@ use lib.Dec.{T, T-not, eqb}
 use lib.ListN.{length, getD, set, length-set}
 use lib.Seq.{getD-set-same, getD-set-other}
 use Rattle.base.specs.Sets.{_⊆_, count}
-use Rattle.base.specs.Span.{span}
 use Rattle.base.proofs.Bools.{is, is-not}
 use Rattle.base.proofs.Choose.{pick-elim, pick-yes, pick-no}
 use Rattle.base.proofs.Lists.{In, in-head, in-tail, InCons, first, later, in-cases, in-nil}
 use Rattle.base.proofs.Sets.{count-le, count-less}
-use Rattle.base.proofs.Span.{span-one, span-none}
 use Rattle.job.specs.Job.{claimOf}
-use Rattle.job.specs.Format.{literalAt}
-use Rattle.job.specs.Claims.{moved}
+use Rattle.job.specs.Format.{literalByte, literalAt}
 use Rattle.job.specs.declared.Cursor.{Cursor}
 use Rattle.model.specs.Passes.{setOf}
 use Rattle.table.specs.Layout.{mark, complete}
-use Rattle.turns.specs.Gather.{Work, visit, visits, met, Fits, Room}
+use Rattle.turns.specs.Gather.{Work, visit, visits, onward, met, Fits, Room}
+use Rattle.turns.proofs.Walk.{onward-more, onward-end, met-none, met-first}
 
 -- one byte set to 1
 module _ (w : List ℕ) (b : ℕ) where
@@ -190,51 +188,57 @@ push-room n k b f l e =
     let most = count-le (setOf (set (k .seen) b 1)) n in
     (omega (arith, f .most, f .wide), omega (arith, f .most))
 
--- the claims under a cursor: none, or the first and then the rest
-module _ (t : List ℕ) (f : ℕ → ℕ) (a z : ℕ) (k : Work) where
-  visits-none : z ≤ a → visits t (span f a (z - a)) k ≡ k
-  unfolding visits
-  visits-none h = ap (λ (bs : List ℕ). visits t bs k) (span-none f a (z - a) (omega arith))
-
-  visits-first : (k′ : Work) → a < z → visit t (f a) k ≡ k′ → visits t (span f a (z - a)) k ≡ visits t (span f (a + 1) (z - (a + 1))) k′
-  unfolding visits
-  visits-first k′ h v =
-      let d : z - a - 1 ≡ z - (a + 1) = omega arith in
-      ap (λ (bs : List ℕ). visits t bs k) (span-one f a (z - a) (omega arith) ∙ ap (λ (x : ℕ). f a ∷ span f (a + 1) x) d)
-      ∙ ap (visits t (span f (a + 1) (z - (a + 1)))) v
-
 -- From cursor c₀ and worklist k₀ a loop came to c and k: what is still to be met makes of k what all that was to be met makes of k₀.
-pub record Expanding (s : List ℕ) (m : ℕ) (t : List ℕ) (c₀ : Cursor) (k₀ : Work) (c : Cursor) (k : Work) : Type 0 where
-  pub room : Room s m t (length (k₀ .seen)) c k
+pub record Expanding (s : List ℕ) (m : ℕ) (index t : List ℕ) (c₀ : Cursor) (k₀ : Work) (c : Cursor) (k : Work) : Type 0 where
+  pub room : Room s m index t (length (k₀ .seen)) c k
   pub deep : length (k .stack) ≡ length (k₀ .stack)
-  pub toCome : visits t (met s m c) k ≡ visits t (met s m c₀) k₀
+  pub toCome : visits t (met s m index t c) k ≡ visits t (met s m index t c₀) k₀
 
-pub expanding-start : {s : List ℕ} {m : ℕ} {t : List ℕ} {c₀ : Cursor} {k₀ : Work} → Room s m t (length (k₀ .seen)) c₀ k₀ → Expanding s m t c₀ k₀ c₀ k₀
+pub expanding-start : {s : List ℕ} {m : ℕ} {index t : List ℕ} {c₀ : Cursor} {k₀ : Work} → Room s m index t (length (k₀ .seen)) c₀ k₀ → Expanding s m index t c₀ k₀ c₀ k₀
 expanding-start r = record { room = r; deep = refl; toCome = refl }
 
-module _ (s : List ℕ) (m : ℕ) (t : List ℕ) (c₀ : Cursor) (k₀ : Work) (c : Cursor) (k : Work) (x : Expanding s m t c₀ k₀ c k) where
+visits-none : (t : List ℕ) (k : Work) → visits t [] k ≡ k
+unfolding visits
+visits-none t k = refl
+
+visits-first : (t : List ℕ) (b : ℕ) (bs : List ℕ) (k : Work) → visits t (b ∷ bs) k ≡ visits t bs (visit t b k)
+unfolding visits
+visits-first t b bs k = refl
+
+module _ (s : List ℕ) (m : ℕ) (index t : List ℕ) (c₀ : Cursor) (k₀ : Work) (c : Cursor) (k : Work) (x : Expanding s m index t c₀ k₀ c k) where
   pub expanding-below : c .at < c .end → claimOf (literalAt s m (c .at)) < length (k .seen)
   expanding-below l = omega (arith, x .room .below (c .at) (omega arith) l, x .room .fits .long)
 
   pub expanding-fits : Fits (length (k .seen)) k
   expanding-fits = subst⁻¹ (λ (n : ℕ). Fits n k) (x .room .fits .long) (x .room .fits)
 
-  pub expanding-more : (b : ℕ) (c′ : Cursor) (k′ : Work) → c .at < c .end → b ≡ claimOf (literalAt s m (c .at)) → visit t b k ≡ k′ → c′ ≡ moved c → Expanding s m t c₀ k₀ c′ k′
+  abbrev next : Cursor
+  next = onward index t (literalAt s m (c .at)) c
+
+  pub expanding-less : c .at < c .end → (c .at < next .at) × (next .end ≡ c .end)
+  expanding-less l = (onward-more index t (literalAt s m (c .at)) c (x .room .ends (c .at) (omega arith) l), onward-end index t (literalAt s m (c .at)) c)
+
+  pub expanding-more : (b : ℕ) (c′ : Cursor) (k′ : Work) → c .at < c .end → b ≡ claimOf (literalAt s m (c .at)) → visit t b k ≡ k′ → c′ ≡ onward index t (literalAt s m (c .at)) c → Expanding s m index t c₀ k₀ c′ k′
   expanding-more b c′ k′ l i u e =
       let v : visit t (claimOf (literalAt s m (c .at))) k ≡ k′ = sym (ap (λ (y : ℕ). visit t y k) i) ∙ u in
-      let b : claimOf (literalAt s m (c .at)) < length (k₀ .seen) = x .room .below (c .at) (omega arith) l in
+      let low : claimOf (literalAt s m (c .at)) < length (k₀ .seen) = x .room .below (c .at) (omega arith) l in
       let f = x .room .fits in
-      subst⁻¹ (λ (y : Cursor). Expanding s m t c₀ k₀ y k′) e
+      let n = expanding-less l in
+      subst⁻¹ (λ (y : Cursor). Expanding s m index t c₀ k₀ y k′) e
       (record {
         room = record {
-          bytes = x .room .bytes;
-          below = λ i g h. x .room .below i (omega arith) h;
+          bytes = subst⁻¹ (λ (y : ℕ). literalByte m y ≤ length s) (n .1) (x .room .bytes);
+          most = omega (arith, x .room .most);
+          ends = λ i g h. x .room .ends i (omega arith) (omega arith);
+          below = λ i g h. x .room .below i (omega arith) (omega arith);
           words = x .room .words;
-          fits = subst (λ (y : Work). Fits (length (k₀ .seen)) y) v (visit-fits t (length (k₀ .seen)) (claimOf (literalAt s m (c .at))) k b f);
+          fits = subst (λ (y : Work). Fits (length (k₀ .seen)) y) v (visit-fits t (length (k₀ .seen)) (claimOf (literalAt s m (c .at))) k low f);
         };
-        deep = sym (ap (λ (y : Work). length (y .stack)) v) ∙ (visit-deep t (length (k₀ .seen)) (claimOf (literalAt s m (c .at))) k b f ∙ x .deep);
-        toCome = sym (visits-first t (λ i. claimOf (literalAt s m i)) (c .at) (c .end) k k′ l v) ∙ x .toCome;
+        deep = sym (ap (λ (y : Work). length (y .stack)) v) ∙ (visit-deep t (length (k₀ .seen)) (claimOf (literalAt s m (c .at))) k low f ∙ x .deep);
+        toCome =
+            sym (ap (visits t (met s m index t next)) v)
+            ∙ (sym (ap (λ (bs : List ℕ). visits t bs k) (met-first s m index t c (x .room .ends) l) ∙ visits-first t (claimOf (literalAt s m (c .at))) (met s m index t next) k) ∙ x .toCome);
       })
 
-  pub expanding-done : c .end ≤ c .at → visits t (met s m c₀) k₀ ≡ k
-  expanding-done l = sym (x .toCome) ∙ visits-none t (λ i. claimOf (literalAt s m i)) (c .at) (c .end) k l
+  pub expanding-done : c .end ≤ c .at → visits t (met s m index t c₀) k₀ ≡ k
+  expanding-done l = sym (x .toCome) ∙ (ap (λ (bs : List ℕ). visits t bs k) (met-none s m index t c l) ∙ visits-none t k)

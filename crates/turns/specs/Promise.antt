@@ -3,25 +3,29 @@
 --   from s t xs     the table after the list xs, from t freshly started; history s t xs   its turns
 --   Leads j x y     a literal of a rule of x, plain or negated, has claim y
 --   Asked j c       a question names c or leads to it through all literals of rules
+--   FalseAmong      one of some literals is complete and false
+--   OthersBehind    the literals of rules of complete claims whose claims aren't complete stand behind a complete false one
 --   alone j         the same job with one worker, worker 0, in every question
 --   turns n         n single turns of worker 0
 --   bound j         2L + A + 3Q
 --   Promise s       the demands, a field a clause
 use Prim.Native.Nat.{ℕ, zero, suc, _+_, _*_, _<_, _≤_}
 use mathlib.Core.Path.{_≡_}
-use mathlib.Core.List.{List, [], _∷_, map}
+use mathlib.Core.List.{List, [], _∷_, _++_, map}
 use mathlib.Core.Logic.{_↔_}
 use lib.ListN.{length, getD}
 use Rattle.base.specs.Graph.{Reach}
-use Rattle.job.specs.Job.{Job, literalCount}
+use Rattle.job.specs.Job.{Job, Rule, claimOf, literalCount}
 use Rattle.job.specs.Format.{jobOf}
 use Rattle.job.specs.Encoding.{encode, _∈_}
 use Rattle.job.specs.Checks.{checkJob}
 use Rattle.job.specs.declared.Check.the-variants.{Accepted}
+use Rattle.job.specs.declared.Literal.{Literal}
 use Rattle.job.specs.declared.Question.{Question}
-use Rattle.model.specs.Model.{programOf, verdict, byteOf}
-use Rattle.table.specs.Questions.{askedBy}
+use Rattle.model.specs.Model.{programOf, False, verdict, literalVerdict, byteOf}
+use Rattle.table.specs.Questions.{askedBy, questionClaim}
 use Rattle.table.specs.Layout.{used, mark, answerWord}
+use Rattle.table.specs.Ranges.{checkTable}
 use Rattle.table.specs.Start.{startWords}
 use Rattle.table.specs.Reading.{readingOf, readingValue}
 use Rattle.waiting.specs.Runs.{Rounds}
@@ -47,6 +51,19 @@ pub record Asked (j : Job) (c : ℕ) : Type 0 where
   pub is : question ∈ j .questions
   pub leads : Reach (Leads j) (question .claim) c
 
+-- "a complete false one": a literal is false if it is plain and its claim is false, or negated and its claim is true
+pub record FalseAmong (j : Job) (t : List ℕ) (ls : List Literal) : Type 0 where
+  pub literal : Literal
+  pub is : literal ∈ ls
+  pub complete : Complete t (claimOf literal)
+  pub false : literalVerdict (programOf j) literal ≡ False
+
+-- (02, order 5) "each literal of their rules whose claim isn't complete stands behind a complete false one."
+abbrev pub OthersBehind : Job → List ℕ → Type 0
+OthersBehind j t =
+    (r : Rule) → r ∈ j .rules → Complete t (r .head) → (before : List Literal) (l : Literal) (rest : List Literal) → r .body ≡ before ++ (l ∷ rest)
+    → (Complete t (claimOf l) → ⊥) → FalseAmong j t before
+
 -- "One worker asking everything: the same job with T 1 and worker 0 in every question"
 unfoldable pub alone : Job → Job
 alone j =
@@ -68,10 +85,14 @@ pub record Promise (s : List ℕ) : Type 0 where
   pub values :
       (t u : List ℕ) → Fresh s t → Fresh s u → (xs ys : List Call) (c : ℕ) → c < jobOf s .claims → Complete (from s t xs) c → Complete (from s u ys) c
       → readingOf (mark (from s t xs) c) ≡ readingOf (mark (from s u ys) c)
-  -- "if all questions are answered after both, the same claims are complete, namely those the questions name or lead to"
+  -- (02, order 5) "Of the claims complete when all is answered, demand 3 then promises only that the questions name or lead to them,"
+  -- and of those complete after any list
   pub claims :
-      (t : List ℕ) → Fresh s t → (xs : List Call) → AllAnswered (jobOf s) (history s t xs) → (c : ℕ) → c < jobOf s .claims
-      → Complete (from s t xs) c ↔ Asked (jobOf s) c
+      (t : List ℕ) → Fresh s t → (xs : List Call) (c : ℕ) → c < jobOf s .claims → Complete (from s t xs) c → Asked (jobOf s) c
+  -- "and that each literal of their rules whose claim isn't complete stands behind a complete false one."
+  pub literals : (t : List ℕ) → Fresh s t → (xs : List Call) → OthersBehind (jobOf s) (from s t xs)
+  -- every further call finds the table as rows 9 and 10 want it
+  pub accepted : (t : List ℕ) → Fresh s t → (xs : List Call) → Accepted ≡ checkTable (jobOf s) (from s t xs)
   -- "each answered question has the answer that one worker asking everything in sequence gets", by the question's position in the file
   pub answers :
       (t u : List ℕ) → Fresh s t → Fresh (encode (alone (jobOf s))) u → (xs : List Call) (w k : ℕ) → w < jobOf s .workers → k < length (askedBy (jobOf s) w)
@@ -83,6 +104,10 @@ pub record Promise (s : List ℕ) : Type 0 where
   pub aloneAnswers :
       (u : List ℕ) → Fresh (encode (alone (jobOf s))) u → (n : ℕ) → bound (jobOf s) ≤ n
       → AllAnswered (alone (jobOf s)) (history (encode (alone (jobOf s))) u (turns n))
+  -- the answer of a question is its claim's verdict in the well-founded model of the whole job
+  pub right :
+      (t : List ℕ) → Fresh s t → (xs : List Call) (w k : ℕ) → w < jobOf s .workers → k < length (askedBy (jobOf s) w) → IsAnswered (history s t xs) w k
+      → answerOf (jobOf s) (history s t xs) w k ≡ byteOf (verdict (programOf (jobOf s)) (questionClaim (jobOf s) w k))
   -- "its question word holds it"
   pub holds :
       (t : List ℕ) → Fresh s t → (xs : List Call) (w k : ℕ) → w < jobOf s .workers → k < length (askedBy (jobOf s) w) → IsAnswered (history s t xs) w k

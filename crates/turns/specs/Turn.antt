@@ -2,6 +2,9 @@
 --   Turned            a turn's kind, and the table it leaves
 --   kindNumber k      01's number of a kind
 --   lits j c          the claims of c's literals, over its rules in file order
+--   litAt j c k       c's literal k, from 0
+--   falseMark l       the mark of its claim that makes literal l false; failed t l   literal l is complete and false
+--   clear j t c k     no literal before c's literal k, of its rule, is complete and false
 --   leads j t c       what c leads to; reached j t c   all that is reached from c, in rising order
 --   newest t cs       the newest of some claims + 1, or 0 where there is none
 --   allPassed j t c   c has passed all its literals
@@ -16,10 +19,12 @@ use Prim.Native.Nat.{ℕ, zero, suc, _+_, _-_}
 use mathlib.Core.Bool.{Bool, true, false, not, _&&_}
 use mathlib.Core.List.{List, [], _∷_, map}
 use lib.Dec.{leb, ltb, eqb}
-use lib.ListN.{length, getD, set, take}
+use lib.ListN.{length, getD, set}
 use Rattle.base.specs.Choose.{pick}
 use Rattle.base.specs.Lists.{upto, keep, every, isIn}
-use Rattle.job.specs.Job.{Job, claimOf, literalsOf}
+use Rattle.job.specs.Job.{Job, claimOf, literalsOf, ruleEnd}
+use Rattle.job.specs.declared.Literal.{Literal}
+use Rattle.job.specs.declared.Literal.the-variants.{Plain, Negated}
 use Rattle.model.specs.Model.{programOf, verdict, exchange, knownOf}
 use Rattle.table.specs.Questions.{askedBy, questionClaim}
 use Rattle.table.specs.Layout.{opened, markWord, cursorWord, numberWord, mark, cursor, number, awaitedWord, answeredWord, awaited, answered, answerWord, fresh, owned, complete, valueOf, markOf, values}
@@ -44,9 +49,26 @@ pub record Turned : Type 0 where
 unfoldable pub lits : Job → ℕ → List ℕ
 lits j c = map claimOf (literalsOf c (j .rules))
 
+unfoldable pub litAt : Job → ℕ → ℕ → Literal
+litAt j c k = getD (literalsOf c (j .rules)) k (Plain 0)
+
+-- a plain literal is false where its claim is false, a negated one where it is true
+abbrev pub falseMark : Literal → ℕ
+falseMark (Plain c) = 257
+falseMark (Negated c) = 256
+
+unfoldable pub failed : List ℕ → Literal → Bool
+failed t l = eqb (mark t (claimOf l)) (falseMark l)
+
+-- (02, order 5) "an earlier literal of that rule is complete and false"
+unfoldable pub clear : Job → List ℕ → ℕ → ℕ → Bool
+clear j t c k = every (λ i. not (failed t (litAt j c i) && ltb k (ruleEnd c (j .rules) i))) (upto k)
+
 -- "A claim leads to the claim of each literal it has passed that isn't complete;"
+-- (02, order 5) "A literal behind a complete false one in its rule no longer leads anywhere."
 unfoldable pub leads : Job → List ℕ → ℕ → List ℕ
-leads j t c = keep (λ d. not (complete t d)) (take (cursor t c) (lits j c))
+leads j t c =
+    keep (λ d. not (complete t d)) (map (λ k. getD (lits j c) k 0) (keep (λ k. ltb k (cursor t c) && clear j t c k) (upto (length (lits j c)))))
 
 -- "'reached' follows this any number of times, the start included."
 unfoldable pub anyLeads : Job → List ℕ → List ℕ → ℕ → Bool
@@ -113,17 +135,21 @@ askTurn j t w =
 
 -- "C passes that literal, of claim B. B complete or w's: passed. Fresh: open to w, opened. Another's: .. If that never meets w,
 -- w awaits B, waits. If it does, every open claim reached from C becomes w's, took"
+-- (02, order 5) "Before C meets a literal, if an earlier literal of that rule is complete and false, the turn moves the cursor to the
+-- rule's end and answers passed."
 unfoldable pub passTurn : Job → List ℕ → ℕ → ℕ → Turned
 unfolding pick
 passTurn j t w c =
     let b = getD (lits j c) (cursor t c) 0 in
     let t′ = set t (cursorWord c) (cursor t c + 1) in
-    pick (complete t b) (record { kind = Passed; table = t′ })
+    pick (clear j t c (cursor t c))
+    (pick (complete t b) (record { kind = Passed; table = t′ })
     (pick (owned t w b) (record { kind = Passed; table = t′ })
     (pick (fresh t b) (record { kind = Opened; table = openClaim t′ w b })
     (pick (meets (j .workers) j t w (mark t b - 1))
     (record { kind = Took; table = markAll (λ d. w + 1) (keep (λ d. not (fresh t d)) (reached j t′ c)) t′ })
-    (record { kind = Waits; table = set t′ (awaitedWord j w) (b + 1) }))))
+    (record { kind = Waits; table = set t′ (awaitedWord j w) (b + 1) })))))
+    (record { kind = Passed; table = set t (cursorWord c) (ruleEnd c (j .rules) (cursor t c)) })
 
 -- "If all reached from N are w's and have passed all their literals, all of them become complete: completed."
 -- "C is the newest claim of w reached from N with a literal left; none, idle."

@@ -17,6 +17,7 @@ use crate::TurnAnswer;
 use crate::schedule;
 use crate::tally;
 use job::Check;
+use job::ClaimIndex;
 use job::claims;
 use job::format;
 use table::words;
@@ -46,7 +47,7 @@ pub fn start(job: &[u8], table: &mut [u32]) -> Check
 }
 
 // A turn on an accepted job, whose index of claims is lent: rows 9 to 11.
-fn turn_accepted(job: &[u8], index: &[u32; 4097], table: &mut [u32], worker: usize) -> TurnAnswer
+fn turn_accepted(job: &[u8], index: &ClaimIndex, table: &mut [u32], worker: usize) -> TurnAnswer
     requires { ⌜ WellFormed (now job) × Index (now job) (now index) ⌝ }
     ensures { λ r. ⌜ r ≡ turnAnswer (checkTable (jobOf (now (job .entry))) (now (table .entry)) ⨾ checkTurnWorker (now (job .entry)) worker) (now (job .entry)) (now (table .entry)) worker ⌝ }
     ensures { λ r. ⌜ now (table .exit) ≡ turnTable (checkTable (jobOf (now (job .entry))) (now (table .entry)) ⨾ checkTurnWorker (now (job .entry)) worker) (now (job .entry)) (now (table .entry)) worker ⌝ }
@@ -80,7 +81,7 @@ pub fn turn(job: &[u8], table: &mut [u32], worker: usize) -> TurnAnswer
 }
 
 // A run on an accepted job and a table in range, whose schedule is checked: row 11.
-fn run_in_range(job: &[u8], index: &[u32; 4097], table: &mut [u32], schedule: &[u8]) -> RunAnswer
+fn run_in_range(job: &[u8], index: &ClaimIndex, table: &mut [u32], schedule: &[u8]) -> RunAnswer
     requires { ⌜ Ready (now job) (now index) (now table) ⌝ }
     ensures { λ r. ⌜ Ran (checkSchedule (now (job .entry)) (now (schedule .entry))) (now (job .entry)) (now (table .entry)) (now (schedule .entry)) r (now (table .exit)) ⌝ }
 {
@@ -101,7 +102,7 @@ fn run_in_range(job: &[u8], index: &[u32; 4097], table: &mut [u32], schedule: &[
 }
 
 // A run on an accepted job, whose index of claims is lent: rows 9 to 11.
-fn run_accepted(job: &[u8], index: &[u32; 4097], table: &mut [u32], schedule: &[u8]) -> RunAnswer
+fn run_accepted(job: &[u8], index: &ClaimIndex, table: &mut [u32], schedule: &[u8]) -> RunAnswer
     requires { ⌜ WellFormed (now job) × Index (now job) (now index) ⌝ }
     ensures { λ r. ⌜ Ran (checkTable (jobOf (now (job .entry))) (now (table .entry)) ⨾ checkSchedule (now (job .entry)) (now (schedule .entry))) (now (job .entry)) (now (table .entry)) (now (schedule .entry)) r (now (table .exit)) ⌝ }
 {
@@ -155,7 +156,7 @@ pub fn check_schedule(job: &[u8], schedule: &[u8]) -> Check
 }
 
 // Reads a claim of an accepted job, whose index of claims is lent: rows 9, 10 and 12.
-fn read_accepted(job: &[u8], index: &[u32; 4097], table: &[u32], claim: usize) -> ReadAnswer
+fn read_accepted(job: &[u8], index: &ClaimIndex, table: &[u32], claim: usize) -> ReadAnswer
     requires { ⌜ WellFormed (now job) × Index (now job) (now index) ⌝ }
     ensures { λ r. ⌜ r ≡ readAnswer (checkTable (jobOf (now (job .entry))) (now (table .entry)) ⨾ checkClaimRead (now (job .entry)) claim) (now (table .entry)) claim ⌝ }
 {

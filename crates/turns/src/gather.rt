@@ -10,6 +10,8 @@ ghost use Rattle.table.specs.Layout.{cursor as passedBy};
 ghost use Rattle.turns.specs.Turn.{reached};
 ghost use Rattle.turns.specs.Ready.{Ready};
 ghost use Rattle.turns.specs.Gather.{met, Fits, Room, visit as visitOf, visits};
+use crate::failing;
+use job::ClaimIndex;
 use job::Cursor;
 use job::format;
 use model::sets;
@@ -44,9 +46,10 @@ fn visit(table: &[u32], b: usize, seen: &mut [u8], stack: &mut [u32], top: usize
     top + 1
 }
 
-// Meets the claims of the literals that the cursor has left, in order. Answers the stack's new top.
+// Meets the claims of the literals that the cursor has left, and that stand behind no false one, in order. Answers the stack's new top.
 fn expand(
     job: &[u8],
+    index: &ClaimIndex,
     table: &[u32],
     rules: usize,
     from: Cursor,
@@ -54,21 +57,21 @@ fn expand(
     stack: &mut [u32],
     bottom: usize,
 ) -> usize
-    requires { ⌜ Room (now job) rules (now table) (length (now seen)) from (record { seen = now seen; stack = now stack; top = bottom }) ⌝ }
-    ensures { λ r. ⌜ visits (now (table .entry)) (met (now (job .entry)) rules from) (record { seen = now (seen .entry); stack = now (stack .entry); top = bottom }) ≡ record { seen = now (seen .exit); stack = now (stack .exit); top = r } ⌝ }
+    requires { ⌜ Room (now job) rules (now index) (now table) (length (now seen)) from (record { seen = now seen; stack = now stack; top = bottom }) ⌝ }
+    ensures { λ r. ⌜ visits (now (table .entry)) (met (now (job .entry)) rules (now (index .entry)) (now (table .entry)) from) (record { seen = now (seen .entry); stack = now (stack .entry); top = bottom }) ≡ record { seen = now (seen .exit); stack = now (stack .exit); top = r } ⌝ }
 {
     let mut cursor = from;
     let mut top = bottom;
     while !cursor.at_end() {
         let literal = cursor.current(job, rules);
         top = visit(table, format::claim_of(literal), seen, stack, top);
-        cursor = cursor.advanced();
+        cursor = failing::moved_on(index, table, literal, cursor);
     }
     top
 }
 
 // The cursor over the literals that claim c has passed.
-fn passed_over(index: &[u32; 4097], table: &[u32], c: usize) -> Cursor
+fn passed_over(index: &ClaimIndex, table: &[u32], c: usize) -> Cursor
     requires { ⌜ (c < 4096) × (10 + 3 * c < length (now table)) × (getD (now index) c 0 ≤ 16384) ⌝ }
     ensures { λ r. ⌜ r ≡ record { at = getD (now (index .entry)) c 0; end = getD (now (index .entry)) c 0 + passedBy (now (table .entry)) c } ⌝ }
 {
@@ -79,8 +82,8 @@ fn passed_over(index: &[u32; 4097], table: &[u32], c: usize) -> Cursor
     }
 }
 
-// What the claim reaches, into seen. Each claim is pushed at most once, and each passed literal looked at once.
-pub fn gather(job: &[u8], index: &[u32; 4097], table: &[u32], claim: usize, seen: &mut [u8])
+// What the claim reaches, into seen. Each claim is pushed at most once, and each passed literal looked at once at most.
+pub fn gather(job: &[u8], index: &ClaimIndex, table: &[u32], claim: usize, seen: &mut [u8])
     requires { ⌜ Ready (now job) (now index) (now table) ⌝ }
     requires { ⌜ (length (now seen) ≡ claims (now job)) × (claim < claims (now job)) ⌝ }
     ensures { λ r. ⌜ ((d : ℕ) → setOf (now (seen .exit)) d ≡ isIn d (reached (jobOf (now (job .entry))) (now (table .entry)) claim)) ⌝ }
@@ -93,6 +96,6 @@ pub fn gather(job: &[u8], index: &[u32; 4097], table: &[u32], claim: usize, seen
     let mut top: usize = 1;
     while 0 < top {
         let from = passed_over(index, table, wide(stack[top - 1]));
-        top = expand(job, table, rules, from, seen, &mut stack, top - 1);
+        top = expand(job, index, table, rules, from, seen, &mut stack, top - 1);
     }
 }

@@ -2,6 +2,7 @@
 // The contracts cite specs/: Turn (what a turn does), Calls (what each call answers and leaves), Promise (demands 2 and 3).
 mod asking;
 pub mod calls;
+mod failing;
 mod gather;
 mod newest;
 mod owners;

@@ -10,6 +10,7 @@ ghost use Rattle.model.specs.Passes.{setOf};
 ghost use Rattle.table.specs.Layout.{number, owned};
 ghost use Rattle.turns.specs.Turn.{newest};
 ghost use Rattle.turns.specs.Ready.{passedIn, members};
+use job::ClaimIndex;
 use model::sets;
 use table::words;
 
@@ -44,7 +45,7 @@ pub fn newest_owned(table: &[u32], claims: usize, w: usize) -> usize
 }
 
 // Whether claim c has passed all its literals.
-pub fn passed_all(index: &[u32; 4097], table: &[u32], c: usize) -> bool
+pub fn passed_all(index: &ClaimIndex, table: &[u32], c: usize) -> bool
     requires { ⌜ (c < 4096) × (8 + 3 * (c + 1) ≤ length (now table)) ⌝ }
     ensures { λ r. ⌜ r ≡ passedIn (now (index .entry)) (now (table .entry)) c ⌝ }
 {
@@ -56,7 +57,7 @@ pub fn passed_all(index: &[u32; 4097], table: &[u32], c: usize) -> bool
 }
 
 // Whether claim c is in the set, is w's, and has a literal left.
-fn left_to_pass(index: &[u32; 4097], table: &[u32], seen: &[u8], w: usize, c: usize) -> bool
+fn left_to_pass(index: &ClaimIndex, table: &[u32], seen: &[u8], w: usize, c: usize) -> bool
     requires { ⌜ (c < 4096) × (8 + 3 * (c + 1) ≤ length (now table)) × (w < 32) ⌝ }
     ensures { λ r. ⌜ r ≡ (setOf (now (seen .entry)) c && (owned (now (table .entry)) w c && not (passedIn (now (index .entry)) (now (table .entry)) c))) ⌝ }
 {
@@ -70,7 +71,7 @@ fn left_to_pass(index: &[u32; 4097], table: &[u32], seen: &[u8], w: usize, c: us
 }
 
 // The newest claim of w in the set that has a literal left + 1, or 0 where there is none.
-pub fn newest_left(index: &[u32; 4097], table: &[u32], seen: &[u8], w: usize) -> usize
+pub fn newest_left(index: &ClaimIndex, table: &[u32], seen: &[u8], w: usize) -> usize
     requires { ⌜ (length (now seen) ≤ 4096) × (8 + 3 * length (now seen) ≤ length (now table)) × (w < 32) ⌝ }
     ensures { λ r. ⌜ (r ≡ newest (now (table .entry)) (keep (λ (d : ℕ). owned (now (table .entry)) w d && not (passedIn (now (index .entry)) (now (table .entry)) d)) (members (now (seen .entry))))) × (r ≤ length (now (seen .entry))) ⌝ }
 {
@@ -86,7 +87,7 @@ pub fn newest_left(index: &[u32; 4097], table: &[u32], seen: &[u8], w: usize) ->
 }
 
 // Whether claim c is w's and has passed all its literals.
-fn is_done(index: &[u32; 4097], table: &[u32], w: usize, c: usize) -> bool
+fn is_done(index: &ClaimIndex, table: &[u32], w: usize, c: usize) -> bool
     requires { ⌜ (c < 4096) × (8 + 3 * (c + 1) ≤ length (now table)) × (w < 32) ⌝ }
     ensures { λ r. ⌜ r ≡ (owned (now (table .entry)) w c && passedIn (now (index .entry)) (now (table .entry)) c) ⌝ }
 {
@@ -97,7 +98,7 @@ fn is_done(index: &[u32; 4097], table: &[u32], w: usize, c: usize) -> bool
 }
 
 // Whether every claim of the set is w's and has passed all its literals.
-pub fn all_done(index: &[u32; 4097], table: &[u32], seen: &[u8], w: usize) -> bool
+pub fn all_done(index: &ClaimIndex, table: &[u32], seen: &[u8], w: usize) -> bool
     requires { ⌜ (length (now seen) ≤ 4096) × (8 + 3 * length (now seen) ≤ length (now table)) × (w < 32) ⌝ }
     ensures { λ r. ⌜ r ≡ every (λ (d : ℕ). owned (now (table .entry)) w d && passedIn (now (index .entry)) (now (table .entry)) d) (members (now (seen .entry))) ⌝ }
 {

@@ -1,4 +1,4 @@
-// The fourth bullet of a turn: a claim passes its next literal. The contracts cite `passTurn` of specs/Turn.
+// The fourth bullet of a turn: a claim passes its next literal, or skips the rest of a rule that has failed. The contracts cite `passTurn` of specs/Turn.
 ghost use mathlib.Core.Path.{_≡_};
 ghost use mathlib.Core.Bool.{true, not};
 ghost use Prim.Native.Nat.{ℕ, _+_, _<_};
@@ -8,12 +8,14 @@ ghost use Rattle.job.specs.Accepted.{WellFormed};
 ghost use Rattle.job.specs.Claims.{Index};
 ghost use Rattle.job.specs.Format.{claims, workers, jobOf};
 ghost use Rattle.table.specs.Layout.{cursor, fresh, owned};
-ghost use Rattle.turns.specs.Turn.{lits, reached, markAll, passTurn};
+ghost use Rattle.turns.specs.Turn.{lits, clear, reached, markAll, passTurn};
 ghost use Rattle.turns.specs.Ready.{Ready, Made};
 use crate::Kind;
+use crate::failing;
 use crate::gather;
 use crate::owners;
 use crate::stores;
+use job::ClaimIndex;
 use job::Cursor;
 use job::format;
 use table::words;
@@ -26,7 +28,7 @@ pub fn no_bytes() -> [u8; 4096]
 }
 
 // The claim of claim c's next literal, where it has passed some and has one left.
-fn next_claim(job: &[u8], index: &[u32; 4097], c: usize, passed: usize) -> usize
+fn next_claim(job: &[u8], index: &ClaimIndex, c: usize, passed: usize) -> usize
     requires { ⌜ WellFormed (now job) × Index (now job) (now index) ⌝ }
     requires { ⌜ (c < claims (now job)) × (passed < length (lits (jobOf (now job)) c)) ⌝ }
     ensures { λ r. ⌜ (r ≡ getD (lits (jobOf (now (job .entry))) c) passed 0) × (r < claims (now (job .entry))) ⌝ }
@@ -37,7 +39,7 @@ fn next_claim(job: &[u8], index: &[u32; 4097], c: usize, passed: usize) -> usize
 }
 
 // Every open claim reached from c becomes w's, with room for what is reached.
-fn take_in(job: &[u8], index: &[u32; 4097], table: &mut [u32], w: usize, c: usize, seen: &mut [u8])
+fn take_in(job: &[u8], index: &ClaimIndex, table: &mut [u32], w: usize, c: usize, seen: &mut [u8])
     requires { ⌜ Ready (now job) (now index) (now table) ⌝ }
     requires { ⌜ (length (now seen) ≡ claims (now job)) × (c < claims (now job)) × (w < workers (now job)) ⌝ }
     ensures { λ r. ⌜ now (table .exit) ≡ markAll (λ (d : ℕ). w + 1) (keep (λ (d : ℕ). not (fresh (now (table .entry)) d)) (reached (jobOf (now (job .entry))) (now (table .entry)) c)) (now (table .entry)) ⌝ }
@@ -47,7 +49,7 @@ fn take_in(job: &[u8], index: &[u32; 4097], table: &mut [u32], w: usize, c: usiz
 }
 
 // Every open claim reached from c becomes w's.
-fn take_over(job: &[u8], index: &[u32; 4097], table: &mut [u32], w: usize, c: usize)
+fn take_over(job: &[u8], index: &ClaimIndex, table: &mut [u32], w: usize, c: usize)
     requires { ⌜ Ready (now job) (now index) (now table) ⌝ }
     requires { ⌜ (c < claims (now job)) × (w < workers (now job)) ⌝ }
     ensures { λ r. ⌜ now (table .exit) ≡ markAll (λ (d : ℕ). w + 1) (keep (λ (d : ℕ). not (fresh (now (table .entry)) d)) (reached (jobOf (now (job .entry))) (now (table .entry)) c)) (now (table .entry)) ⌝ }
@@ -57,11 +59,12 @@ fn take_over(job: &[u8], index: &[u32; 4097], table: &mut [u32], w: usize, c: us
     take_in(job, index, table, w, c, &mut seen[..claims]);
 }
 
-// Claim c, which is w's and has a literal left, passes it.
-pub fn pass_turn(job: &[u8], index: &[u32; 4097], table: &mut [u32], w: usize, c: usize) -> Kind
+// Claim c, which is w's and has a literal left, passes it: no earlier literal of its rule is complete and false.
+fn pass_clear(job: &[u8], index: &ClaimIndex, table: &mut [u32], w: usize, c: usize) -> Kind
     requires { ⌜ Ready (now job) (now index) (now table) ⌝ }
     requires { ⌜ (c < claims (now job)) × (w < workers (now job)) ⌝ }
     requires { ⌜ (owned (now table) w c ≡ true) × (cursor (now table) c < length (lits (jobOf (now job)) c)) ⌝ }
+    requires { ⌜ clear (jobOf (now job)) (now table) c (cursor (now table) c) ≡ true ⌝ }
     ensures { λ r. ⌜ Made (passTurn (jobOf (now (job .entry))) (now (table .entry)) w c) r (now (table .exit)) ⌝ }
 {
     let passed = words::cursor_at(table, c);
@@ -85,4 +88,20 @@ pub fn pass_turn(job: &[u8], index: &[u32; 4097], table: &mut [u32], w: usize, c
     let claims = format::claim_count(job);
     stores::store_word(table, 8 + 3 * claims + 2 * w, b + 1);
     Kind::Waits
+}
+
+// Claim c, which is w's and has a literal left, passes it, or skips the rest of its rule.
+pub fn pass_turn(job: &[u8], index: &ClaimIndex, table: &mut [u32], w: usize, c: usize) -> Kind
+    requires { ⌜ Ready (now job) (now index) (now table) ⌝ }
+    requires { ⌜ (c < claims (now job)) × (w < workers (now job)) ⌝ }
+    requires { ⌜ (owned (now table) w c ≡ true) × (cursor (now table) c < length (lits (jobOf (now job)) c)) ⌝ }
+    ensures { λ r. ⌜ Made (passTurn (jobOf (now (job .entry))) (now (table .entry)) w c) r (now (table .exit)) ⌝ }
+{
+    let passed = words::cursor_at(table, c);
+    let over = failing::rule_over(job, index, table, c, passed);
+    if 0 < over {
+        stores::store_word(table, 9 + 3 * c, over);
+        return Kind::Passed;
+    }
+    pass_clear(job, index, table, w, c)
 }

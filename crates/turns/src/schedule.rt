@@ -9,6 +9,7 @@ ghost use Rattle.turns.specs.Calls.{tally as tallyOf};
 ghost use Rattle.turns.specs.Ready.{Ready};
 use crate::tally;
 use crate::turn;
+use job::ClaimIndex;
 
 // The worker that a byte of a schedule names.
 pub fn wide(b: u8) -> usize
@@ -18,7 +19,7 @@ pub fn wide(b: u8) -> usize
 }
 
 // The turns that the schedule names, and their tally.
-pub fn run_turns(job: &[u8], index: &[u32; 4097], table: &mut [u32], schedule: &[u8]) -> [u64; 8]
+pub fn run_turns(job: &[u8], index: &ClaimIndex, table: &mut [u32], schedule: &[u8]) -> [u64; 8]
     requires { ⌜ Ready (now job) (now index) (now table) ⌝ }
     requires { ⌜ ((i : ℕ) → i < length (now schedule) → getD (now schedule) i 0 < workersOf (now job)) ⌝ }
     ensures { λ r. ⌜ r ≡ tallyOf (runKinds (jobOf (now (job .entry))) (now (table .entry)) (now (schedule .entry))) ⌝ }

@@ -12,6 +12,7 @@ use crate::asking;
 use crate::newest;
 use crate::stores;
 use crate::working;
+use job::ClaimIndex;
 use job::format;
 use table::words;
 
@@ -30,7 +31,7 @@ fn wait_turn(job: &[u8], table: &mut [u32], w: usize, awaited: usize) -> Kind
 }
 
 // A turn of worker w.
-pub fn take_turn(job: &[u8], index: &[u32; 4097], table: &mut [u32], w: usize) -> Kind
+pub fn take_turn(job: &[u8], index: &ClaimIndex, table: &mut [u32], w: usize) -> Kind
     requires { ⌜ Ready (now job) (now index) (now table) ⌝ }
     requires { ⌜ w < workersOf (now job) ⌝ }
     ensures { λ r. ⌜ Made (turn (jobOf (now (job .entry))) (now (table .entry)) w) r (now (table .exit)) ⌝ }

@@ -1,4 +1,4 @@
-// The third bullet of a turn: what is reached from w's newest claim becomes complete, or one claim of it passes a literal.
+// The third bullet of a turn: what is reached from w's newest claim becomes complete, or one claim of it moves on.
 // The contracts cite `workTurn` and `completedMark` of specs/Turn.
 ghost use mathlib.Core.Path.{_≡_};
 ghost use Prim.Native.Nat.{_<_};
@@ -13,6 +13,7 @@ use crate::gather;
 use crate::newest;
 use crate::passing;
 use crate::stores;
+use job::ClaimIndex;
 use job::format;
 use model::evaluate;
 
@@ -42,7 +43,7 @@ fn complete(job: &[u8], table: &mut [u32], seen: &[u8])
 // The turn of a worker that owns claim n, with room for what is reached from n.
 fn work_in(
     job: &[u8],
-    index: &[u32; 4097],
+    index: &ClaimIndex,
     table: &mut [u32],
     w: usize,
     n: usize,
@@ -65,7 +66,7 @@ fn work_in(
 }
 
 // The turn of a worker whose newest open claim is n.
-pub fn work_turn(job: &[u8], index: &[u32; 4097], table: &mut [u32], w: usize, n: usize) -> Kind
+pub fn work_turn(job: &[u8], index: &ClaimIndex, table: &mut [u32], w: usize, n: usize) -> Kind
     requires { ⌜ Ready (now job) (now index) (now table) ⌝ }
     requires { ⌜ (n < claims (now job)) × (w < workers (now job)) ⌝ }
     ensures { λ r. ⌜ Made (workTurn (jobOf (now (job .entry))) (now (table .entry)) w n) r (now (table .exit)) ⌝ }

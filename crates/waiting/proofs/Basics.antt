@@ -1,4 +1,5 @@
--- What follows of one table: owners, chains of waits, one owner of what is mutual, and that all of w's reach its newest. Assumes nothing.
+-- What follows of one table: owners, chains of waits, one owner of what is mutual, that all of w's reach its newest, and
+-- that what the claim which w moves on leads to leads back to it. Assumes nothing.
 use mathlib.Core.Path.{_≡_, refl}
 use Prim.Native.Nat.{ℕ, suc, _-_, _<_}
 use native.Mathlib.Omega.{arith}
@@ -91,6 +92,14 @@ module _ {s : State} {T : ℕ} (I : Inv s T) where
   -- and the claim whose literal it passes
   pub to-literal : {w c b x : ℕ} → AtLiteral s w c b → Own s w x → Reach (Edge s) x c
   to-literal k o = trans (to-newest (k .at .newest) o) (k .path)
+
+  -- what that claim leads to is w's, so it leads back
+  pub literal-back : {w c b y : ℕ} → AtLiteral s w c b → s .Passed c y → s .mark y < 256 → Reach (Edge s) y c
+  literal-back {w} {c} {b} {y} k p l = go (I .goes (k .its) (record { passed = p; ahead = l }))
+    where
+      go : Goes s w y → Reach (Edge s) y c
+      go (own o) = to-literal k o
+      go (away h m) = absurd (omega (arith, h .awaits, k .at .free))
 
 pub at-ease : {s : State} {w q : ℕ} → AtQuestion s w q → Engaged s w → ⊥
 at-ease k (awaiting e) = omega (arith, k .free)

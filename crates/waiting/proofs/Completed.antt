@@ -1,4 +1,5 @@
--- `completed` keeps what holds: what is completed is closed under edges, so all else reaches what it reached. Assumes nothing.
+-- `completed` keeps what holds: what is completed is closed under edges, and only edges of its own claims fade, so all else reaches what it
+-- reached. Assumes nothing.
 use mathlib.Core.Path.{_≡_}
 use mathlib.Core.Logic.{_⊎_, inl, inr}
 use Prim.Native.Nat.{ℕ, suc, _<_}
@@ -6,7 +7,7 @@ use native.Mathlib.Omega.{arith}
 use native.Mathlib.Decide.{decLt}
 use Rattle.base.specs.Graph.{Reach}
 use Rattle.waiting.specs.State.{State, Own, Done, Edge, Mutual, Waits, Grounded, ground, Order, leads, newer, Goes, own, away, Engaged, awaiting, owning, Asked, met, left, Inv}
-use Rattle.waiting.specs.Steps.{Completed, CompletedMark, completed, kept}
+use Rattle.waiting.specs.Steps.{Completed, CompletedMark, completed, kept, Faded, leads as still, behind}
 use Rattle.base.proofs.Paths.{trans, one, minus-fun}
 use Rattle.waiting.proofs.Marks.{completed-aged, completed-done}
 
@@ -54,8 +55,21 @@ module _ {s s′ : State} {T w n : ℕ} (I : Inv s T) (k : Completed s s′ w n)
   was-edge : {x y : ℕ} → Edge s′ x y → Edge s x y
   was-edge e = record { passed = k .literals .more (e .passed); ahead = low (e .ahead) }
 
+  -- what becomes complete was reached
+  newly : {x : ℕ} → s .mark x < 256 → Done s′ x → R x
+  newly {x} l d = go (k .marks x)
+    where
+      go : CompletedMark s s′ n x → R x
+      go (completed r h) = r
+      go (kept m e) = absurd (omega arith)
+
   edge : (x y : ℕ) → Edge s x y → (R y → ⊥) → Edge s′ x y
-  edge x y e m = record { passed = k .literals .less (e .passed); ahead = omega (arith, e .ahead, same m) }
+  edge x y e m = record { passed = go (k .literals .less (e .passed)); ahead = omega (arith, e .ahead, same m) }
+    where
+      -- an earlier literal's claim, completed now, leads back to x: then y would be completed too
+      go : Faded s s′ x y → s′ .Passed x y
+      go (still p) = p
+      go (behind p l d) = absurd (m (closed x y e (trans (newly l d) (I .back p l))))
 
   up : {x y : ℕ} → Reach (Edge s) x y → (R y → ⊥) → Reach (Edge s′) x y
   up p m = minus-fun R closed edge p m
@@ -114,6 +128,12 @@ module _ {s s′ : State} {T w n : ℕ} (I : Inv s T) (k : Completed s s′ w n)
       go (inl r) = omega (arith, k .full r, k .literals .nexts x)
       go (inr m) = let h : Done s x = omega (arith, same m) in omega (arith, I .full h, k .literals .nexts x)
 
+  -- what leads back did so outside
+  back : {x y : ℕ} → s .Earlier x y → s′ .mark y < 256 → Reach (Edge s′) y x
+  back {x} {y} p l =
+      let e : Edge s x y = record { passed = s .sooner p; ahead = low l } in
+      up (I .back p (low l)) (λ r. out l (closed x y e r))
+
   pub completed-keeps : Inv s′ T
   completed-keeps = record {
     begun = λ p. completed-aged k (I .begun (k .literals .more p));
@@ -129,4 +149,5 @@ module _ {s s′ : State} {T w n : ℕ} (I : Inv s T) (k : Completed s s′ w n)
     grounded = λ u. grounded (I .grounded u);
     asked = λ h. asked (I .asked (engaged h));
     alone = λ {w = u} {d = d} e f o. I .alone {w = u} {d = d} (omega (arith, k .workers .awaits u)) (omega (arith, k .workers .asks u)) (was-own o);
+    back = λ p l. back (k .literals .earlier p) l;
   }

@@ -6,7 +6,7 @@ use Rattle.base.specs.Graph.{Reach}
 use Rattle.waiting.specs.State.{State, Own, Edge, Waits, Next, Grounded, ground, Order, leads, Goes, own, Engaged, awaiting, owning, Asked, Inv}
 use Rattle.waiting.proofs.Basics.{own-unique, waits-not}
 use Rattle.waiting.proofs.Links.{Linked, before, now}
-use Rattle.waiting.proofs.Grows.{Grows, low, up, order, begun, named, closed, full, goes, edge-goes, asked}
+use Rattle.waiting.proofs.Grows.{Grows, low, up, order, begun, named, closed, full, back as leads-back, goes, edge-goes, asked}
 
 -- who owns a claim now owned it before, or it is of the set and w's
 pub data Was (s : State) (w : ℕ) (R : ℕ → Type 0) (u x : ℕ) : Type 0 where
@@ -112,4 +112,5 @@ module _ {s s′ : State} {T w b : ℕ} {R : ℕ → Type 0} (I : Inv s T) (k : 
     grounded = λ u. grounded (I .grounded u);
     asked = λ h. all-asked (engaged-or h);
     alone = λ {w = u} {d = d} e f o. alone (k .waited u d e) f (k .owned _ _ o);
+    back = λ p l. leads-back I (k .grows) p l;
   }

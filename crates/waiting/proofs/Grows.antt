@@ -76,6 +76,9 @@ module _ {s s′ : State} {T w b : ℕ} (I : Inv s T) (g : Grows s s′ w b) whe
   pub full : {x : ℕ} → Done s′ x → s′ .next x ≡ 0
   full d = let h = g .was-done d in omega (arith, I .full h, g .links .nexts h)
 
+  pub back : {x y : ℕ} → s′ .Earlier x y → s′ .mark y < 256 → Reach (Edge s′) y x
+  back p l = up (g .links .back p (low l))
+
   -- what was a worker's goes with it
   module _ (keeps : (u x : ℕ) → Own s u x → Goes s′ u x) where
     pub goes : {u y : ℕ} → Goes s u y → Goes s′ u y

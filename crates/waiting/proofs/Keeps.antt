@@ -3,9 +3,9 @@ use mathlib.Core.Path.{_≡_}
 use Prim.Native.Nat.{ℕ, suc, _≤_, _<_}
 use native.Mathlib.Omega.{arith}
 use Rattle.waiting.specs.State.{State, Own, ground, Engaged, awaiting, owning, Inv}
-use Rattle.waiting.specs.Steps.{Start, Step, woke, answered, opened-asked, waits-asked, completes, passed, opened, waits, took}
+use Rattle.waiting.specs.Steps.{Start, Step, woke, answered, opened-asked, waits-asked, completes, passed, skipped, opened, waits, took}
 use Rattle.waiting.proofs.Gains.{gains-keep}
-use Rattle.waiting.proofs.Still.{passed-gains, woke-gains, answered-gains}
+use Rattle.waiting.proofs.Still.{passed-gains, skipped-gains, woke-gains, answered-gains}
 use Rattle.waiting.proofs.Opened.{asked-gains, opened-gains}
 use Rattle.waiting.proofs.Took.{took-gains}
 use Rattle.waiting.proofs.Waits.{waits-asked-keeps, waits-keeps}
@@ -18,6 +18,7 @@ keeps small few I (opened-asked k) = gains-keep I (asked-gains I small few k)
 keeps small few I (waits-asked k) = waits-asked-keeps I k
 keeps small few I (completes k) = completed-keeps I k
 keeps small few I (passed k) = gains-keep I (passed-gains I k)
+keeps small few I (skipped k) = gains-keep I (skipped-gains I k)
 keeps small few I (opened k) = gains-keep I (opened-gains I small few k)
 keeps small few I (waits k) = waits-keeps I k
 keeps small few I (took k) = gains-keep I (took-gains I k)
@@ -48,4 +49,5 @@ module _ {s : State} (T : ℕ) (k : Start s) where
     grounded = λ w. ground (λ u n. absurd (no-waits (n .waits .awaits)));
     asked = λ g. absurd (idle g);
     alone = λ e f o. no-own o;
+    back = λ p. absurd (k .none (s .sooner p));
   }

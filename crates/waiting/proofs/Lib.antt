@@ -10,7 +10,6 @@ pub mod Waits
 pub mod Took
 pub mod Completed
 pub mod Keeps
-pub mod Shape
 pub mod Led
 pub mod Progress
 pub mod Worth

@@ -74,13 +74,13 @@ module _ {s s′ : State} {T w b : ℕ} (I : Inv s T) (small : w < T) (few : T �
 module _ {s s′ : State} {T w q : ℕ} (I : Inv s T) (small : w < T) (few : T ≤ 32) (k : OpenedAsked s s′ w q) where
   pub asked-gains : Gains s s′ T w q (λ z. z ≡ q)
   asked-gains =
-      opens-gain I small few (k .opens) (k .workers) (k .at .free) (links-stay w q (k .literals)) (λ x o. absurd (k .at .none o))
+      opens-gain I small few (k .opens) (k .workers) (k .at .free) (links-stay I q (k .literals)) (λ x o. absurd (k .at .none o))
       (left {q = q} (omega (arith, k .workers .asks w, k .at .asks)) (own (owns-now I small few (k .opens) (k .workers))))
 
 module _ {s s′ : State} {T w c b : ℕ} (I : Inv s T) (small : w < T) (few : T ≤ 32) (k : Opened s s′ w c b) where
   pub opened-gains : Gains s s′ T w b (λ z. z ≡ b)
   opened-gains =
-      let l = links-pass (k .at .its) (k .literals) in
+      let l = links-pass I (k .at) (k .literals) in
       let g = opens-grow I small few (k .opens) (k .workers) l in
       let n : Edge s′ c b = record { passed = k .literals .less new; ahead = omega (arith, k .opens .mark) } in
       opens-gain I small few (k .opens) (k .workers) (k .at .at .free) l (λ x o. trans (up I g (to-literal I (k .at) o)) (one n))

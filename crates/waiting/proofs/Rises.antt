@@ -5,14 +5,14 @@ use native.Mathlib.Omega.{arith}
 use Rattle.base.specs.Graph.{here}
 use Rattle.waiting.specs.State.{State, Own, Done, Engaged, awaiting, owning, Inv}
 use Rattle.waiting.specs.Bound.{Phase, over, busy, due, ahead, Late, late, early, Worth, Value, whole, part, Total}
-use Rattle.waiting.specs.Steps.{Claims, Stays, Passes, Awaits, Workers, AtQuestion, AtLiteral, Woke, Answered, OpenedAsked, WaitsAsked, WaitsOn, Completed, Step, woke, answered, opened-asked, waits-asked, completes, passed, opened, waits, took}
+use Rattle.waiting.specs.Steps.{Same, But, Claims, Stays, Awaits, Workers, AtQuestion, AtLiteral, Woke, Answered, OpenedAsked, WaitsAsked, WaitsOn, Completed, Step, woke, answered, opened-asked, waits-asked, completes, passed, skipped, opened, waits, took}
 use Rattle.waiting.proofs.Basics.{has-question}
 use Rattle.waiting.proofs.Marks.{claims-done, claims-own, claims-owned, opens-done, opens-own, completed-done}
 use Rattle.waiting.proofs.Links.{Links, links-stay, links-pass}
 use Rattle.waiting.proofs.Gains as G
 use Rattle.waiting.proofs.Waits as W
 use Rattle.waiting.proofs.Completed as C
-use Rattle.waiting.proofs.Still.{passed-gains, woke-gains, answered-gains}
+use Rattle.waiting.proofs.Still.{passed-gains, skipped-gains, woke-gains, answered-gains}
 use Rattle.waiting.proofs.Opened.{asked-gains, opened-gains}
 use Rattle.waiting.proofs.Took.{took-gains, own-taken}
 use Rattle.waiting.proofs.Worth.{phase-most, phase-busy, phase-asked, late-free, late-asked, worth-mono, value-more, value-mono, not-yet, stays-busy, by-worker, by-literal, by-claim}
@@ -98,30 +98,30 @@ module _ {s s′ : State} {A T w n n′ : ℕ} (I : Inv s T) (I′ : Inv s′ T)
   waits-asked-rises {q} k =
       by-worker p p′ w small (same-values (λ c d. claims-done (k .claims) d) (k .literals))
       (λ u m. waits-mono I m (k .awaits .asks u) (k .awaits .awaits u m) (k .awaits .answers u)
-      (k .at .free) (k .claims) (k .awaits) (links-stay w q (k .literals)) (p .worth u) (p′ .worth u))
+      (k .at .free) (k .claims) (k .awaits) (links-stay I q (k .literals)) (p .worth u) (p′ .worth u))
       (asked-worth (k .at) (k .held .still) (k .awaits .asks w) (k .awaits .answers w) (awaiting (k .awaits .await))
       (λ l h. late-asked (k .awaits .await) (k .awaits .asks w ∙ k .at .asks) h) (p .worth w) (p′ .worth w))
 
-  -- c passes a literal, and w stays busy
-  module _ {c b : ℕ} (k : AtLiteral s w c b) (l : Passes s s′ c b) (o : Own s′ w c) where
+  -- c's cursor moves on, and w stays busy
+  module _ {c b : ℕ} (k : AtLiteral s w c b) (m : s .cursor c < s′ .cursor c) (l : But c (s .cursor) (s′ .cursor)) (o : Own s′ w c) where
     literal-rises : ((x : ℕ) → Done s x → Done s′ x) → ((u : ℕ) → (u ≡ w → ⊥) → p .worths u ≤ p′ .worths u) → s′ .answered w ≡ s .answered w → n < n′
     literal-rises d h e =
         by-literal p p′ c w (below c (omega (arith, k .its)))
-        (λ x m. value-mono (d x) (l .cursors x m) (p .value x) (p′ .value x))
-        (value-more (d c) 1 (omega (arith, l .cursor)) (p .value c) (p′ .value c))
+        (λ x m. value-mono (d x) (l x m) (p .value x) (p′ .value x))
+        (value-more (d c) 1 (omega arith) (p .value c) (p′ .value c))
         h
         (stays-busy I I′ (k .at .free) (owning (k .its)) (owning o) e (p .worth w) (p′ .worth w))
 
-    gains-rise : {R : ℕ → Type 0} → G.Gains s s′ T w b R → Workers s s′ → n < n′
+    gains-rise : {e : ℕ} {R : ℕ → Type 0} → G.Gains s s′ T w e R → Workers s s′ → n < n′
     gains-rise g v =
         literal-rises (λ x d. g .grows .done d)
         (λ u m. gains-mono I m (v .asks u) (v .awaits u) (v .answers u) g (p .worth u) (p′ .worth u)) (v .answers w)
 
   waits-rises : {c b : ℕ} → WaitsOn s s′ T w c b → n < n′
   waits-rises k =
-      literal-rises (k .at) (k .literals) (claims-own (k .claims) (k .at .its)) (λ x d. claims-done (k .claims) d)
+      literal-rises (k .at) (omega (arith, k .literals .cursor)) (k .literals .cursors) (claims-own (k .claims) (k .at .its)) (λ x d. claims-done (k .claims) d)
       (λ u m. waits-mono I m (k .awaits .asks u) (k .awaits .awaits u m) (k .awaits .answers u)
-      (k .at .at .free) (k .claims) (k .awaits) (links-pass (k .at .its) (k .literals)) (p .worth u) (p′ .worth u))
+      (k .at .at .free) (k .claims) (k .awaits) (links-pass I (k .at) (k .literals)) (p .worth u) (p′ .worth u))
       (k .awaits .answers w)
 
   completed-rises : {c : ℕ} → Completed s s′ w c → n < n′
@@ -143,7 +143,11 @@ module _ {s s′ : State} {A T w n n′ : ℕ} (I : Inv s T) (I′ : Inv s′ T)
   rises (opened-asked k) = opened-asked-rises k
   rises (waits-asked k) = waits-asked-rises k
   rises (completes k) = completed-rises k
-  rises (passed k) = gains-rise (k .at) (k .literals) (claims-own (k .claims) (k .at .its)) (passed-gains I k) (k .workers)
-  rises (opened k) = gains-rise (k .at) (k .literals) (opens-own (k .opens) (k .at .its)) (opened-gains I small few k) (k .workers)
+  rises (passed k) =
+      gains-rise (k .at) (omega (arith, k .literals .cursor)) (k .literals .cursors) (claims-own (k .claims) (k .at .its)) (passed-gains I k) (k .workers)
+  rises (skipped k) = gains-rise (k .at) (k .literals .cursor) (k .literals .cursors) (claims-own (k .claims) (k .at .its)) (skipped-gains I k) (k .workers)
+  rises (opened k) =
+      gains-rise (k .at) (omega (arith, k .literals .cursor)) (k .literals .cursors) (opens-own (k .opens) (k .at .its)) (opened-gains I small few k) (k .workers)
   rises (waits k) = waits-rises k
-  rises (took k) = gains-rise (k .at) (k .literals) (own-taken I k here) (took-gains I k) (k .workers)
+  rises (took k) =
+      gains-rise (k .at) (omega (arith, k .literals .cursor)) (k .literals .cursors) (own-taken I k here) (took-gains I k) (k .workers)

@@ -6,7 +6,7 @@ use native.Mathlib.Omega.{arith}
 use native.Mathlib.Decide.{decLt}
 use Rattle.waiting.specs.State.{State, Inv}
 use Rattle.waiting.specs.Steps as S
-use Rattle.waiting.specs.Steps.{Step, woke, answered, opened-asked, waits-asked, passed, opened, waits, took, Ready, wakes, answers, opens, awaits, passes, Start}
+use Rattle.waiting.specs.Steps.{Step, woke, answered, opened-asked, waits-asked, passed, skipped, opened, waits, took, Ready, wakes, answers, opens, awaits, passes, Start}
 use Rattle.waiting.specs.Bound.{Total}
 use Rattle.waiting.specs.Runs.{Sizes, bound, Ranged, Run, stop, moved, idled, Rounds, none, round, AllAnswered}
 use Rattle.base.proofs.Search as F
@@ -22,6 +22,7 @@ step-ready (opened-asked k) = opens (k .at) (k .opens .fresh)
 step-ready (waits-asked k) = awaits (k .at) (k .held)
 step-ready (Step.completes k) = Ready.completes (k .at) (λ x p. (k .all p, k .full p))
 step-ready (passed k) = passes (k .at)
+step-ready (skipped k) = passes (k .at)
 step-ready (opened k) = passes (k .at)
 step-ready (waits k) = passes (k .at)
 step-ready (took k) = passes (k .at)

@@ -1,13 +1,13 @@
--- `passed`, `woke` and `answered` keep what holds: no claim is opened, taken or completed, and nobody comes to wait. Assumes nothing.
+-- `passed`, `skipped`, `woke` and `answered` keep what holds: no claim is opened, taken or completed, and nobody comes to wait. Assumes nothing.
 use mathlib.Core.Path.{_≡_}
 use Prim.Native.Nat.{ℕ, suc, _<_}
 use native.Mathlib.Omega.{arith}
 use native.Mathlib.Decide.{ℕ-discrete}
 use Rattle.waiting.specs.State.{State, Own, Done, Waits, own, Engaged, Inv}
-use Rattle.waiting.specs.Steps.{Claims, PassedTo, complete, own as to-own, Woke, Answered, PassedOn}
+use Rattle.waiting.specs.Steps.{Claims, PassedTo, complete, own as to-own, Woke, Answered, PassedOn, Skipped}
 use Rattle.waiting.proofs.Basics.{at-ease}
 use Rattle.waiting.proofs.Marks.{claims-own, claims-owned}
-use Rattle.waiting.proofs.Links.{Links, links-stay, links-pass}
+use Rattle.waiting.proofs.Links.{Links, links-stay, links-pass, links-skip}
 use Rattle.waiting.proofs.Grows.{claims-grow}
 use Rattle.waiting.proofs.Gains.{was, Gains}
 
@@ -44,7 +44,13 @@ module _ {s s′ : State} {T w b : ℕ} (I : Inv s T) (k : Claims s s′) (links
 module _ {s s′ : State} {T w c b : ℕ} (I : Inv s T) (k : PassedOn s s′ w c b) where
   pub passed-gains : Gains s s′ T w b (λ x. ⊥)
   passed-gains =
-      still-gains I (k .claims) (links-pass (k .at .its) (k .literals)) (k .to)
+      still-gains I (k .claims) (links-pass I (k .at) (k .literals)) (k .to)
+      (λ u d q. omega (arith, k .workers .awaits u)) (λ u d e. omega (arith, k .workers .awaits u)) (λ u g. k .workers .asks u)
+
+module _ {s s′ : State} {T w c b : ℕ} (I : Inv s T) (k : Skipped s s′ w c b) where
+  pub skipped-gains : Gains s s′ T w c (λ x. ⊥)
+  skipped-gains =
+      still-gains I (k .claims) (links-skip I (k .at) c (k .literals)) (to-own (k .at .its))
       (λ u d q. omega (arith, k .workers .awaits u)) (λ u d e. omega (arith, k .workers .awaits u)) (λ u g. k .workers .asks u)
 
 module _ {s s′ : State} {T w : ℕ} (I : Inv s T) (k : Woke s s′ w) where
@@ -67,11 +73,11 @@ module _ {s s′ : State} {T w : ℕ} (I : Inv s T) (k : Woke s s′ w) where
       go (no n) = omega (arith, k .awaits u n)
 
   pub woke-gains : Gains s s′ T w (k .claim) (λ x. ⊥)
-  woke-gains = still-gains I (k .claims) (links-stay w (k .claim) (k .literals)) (complete (k .over)) wait waited (λ u g. k .asks u)
+  woke-gains = still-gains I (k .claims) (links-stay I (k .claim) (k .literals)) (complete (k .over)) wait waited (λ u g. k .asks u)
 
 module _ {s s′ : State} {T w q : ℕ} (I : Inv s T) (k : Answered s s′ w q) where
   pub answered-gains : Gains s s′ T w q (λ x. ⊥)
   answered-gains =
-      still-gains I (k .claims) (links-stay w q (k .literals)) (complete (k .over))
+      still-gains I (k .claims) (links-stay I q (k .literals)) (complete (k .over))
       (λ u d h. omega (arith, k .awaits u)) (λ u d e. omega (arith, k .awaits u))
       (λ u g. k .asks u (λ e. at-ease (k .at) (rw e at g)))

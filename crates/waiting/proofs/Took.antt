@@ -27,7 +27,7 @@ module _ {s s′ : State} {T w c b : ℕ} (I : Inv s T) (k : Took s s′ T w c b
 
   grows : Grows s s′ w b
   grows = record {
-    links = links-pass (k .at .its) (k .literals);
+    links = links-pass I (k .at) (k .literals);
     aged = λ p. took-aged k p;
     done = λ d. took-done k d;
     was-done = λ d. was-done d;

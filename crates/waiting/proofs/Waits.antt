@@ -11,7 +11,7 @@ use Rattle.waiting.proofs.Basics.{own-unique, waits-not, to-literal}
 use Rattle.waiting.proofs.Within.{meets-within}
 use Rattle.waiting.proofs.Marks.{claims-own, claims-owned}
 use Rattle.waiting.proofs.Links.{Links, links-stay, links-pass}
-use Rattle.waiting.proofs.Grows.{Grows, claims-grow, low, up, order, begun, named, closed, full, edge-goes, asked}
+use Rattle.waiting.proofs.Grows.{Grows, claims-grow, low, up, order, begun, named, closed, full, back, edge-goes, asked}
 
 module _ {s s′ : State} {w b : ℕ} (free : s .awaited w ≡ 0) (claims : Claims s s′) (aw : Awaits s s′ w b) where
   wait : (u d : ℕ) → Waits s u d → s′ .awaited u ≡ suc d
@@ -118,6 +118,7 @@ module _ {s s′ : State} {T w b h : ℕ} (I : Inv s T) (free : s .awaited w ≡
           grounded = λ u. grounded (I .grounded u);
           asked = λ h. all-asked h;
           alone = λ {w = u} e f o. alone u e f (claims-owned claims o);
+          back = λ p l. back I g p l;
         }
 
 -- the end of a chain owns something
@@ -128,7 +129,7 @@ end-owns (step n p) o = end-owns p (n .owner)
 module _ {s s′ : State} {T w q : ℕ} (I : Inv s T) (k : WaitsAsked s s′ w q) where
   pub waits-asked-keeps : Inv s′ T
   waits-asked-keeps =
-      waits-keep I (k .at .free) (k .claims) (k .awaits) (links-stay w q (k .literals)) (k .held) (λ p. k .at .none (end-owns p (k .held) .1))
+      waits-keep I (k .at .free) (k .claims) (k .awaits) (links-stay I q (k .literals)) (k .held) (λ p. k .at .none (end-owns p (k .held) .1))
       (λ x o. absurd (k .at .none o))
       (left {q = q} (omega (arith, k .awaits .asks w, k .at .asks))
       (away (waits-now (k .at .free) (k .claims) (k .awaits) (k .held)) (record { to = here; from = here })))
@@ -142,7 +143,7 @@ module _ {s s′ : State} {T w c b : ℕ} (I : Inv s T) (k : WaitsOn s s′ T w 
 
   pub waits-keeps : Inv s′ T
   waits-keeps =
-      let l = links-pass (k .at .its) (k .literals) in
+      let l = links-pass I (k .at) (k .literals) in
       let g = grows (k .at .at .free) (k .claims) (k .awaits) l in
       let n : Edge s′ c b = record { passed = k .literals .less new; ahead = omega (arith, k .held, k .claims .marks b) } in
       waits-keep I (k .at .at .free) (k .claims) (k .awaits) l (k .held) (λ p. k .misses (meets-within I (I .workers (k .held)) p))

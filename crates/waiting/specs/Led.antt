@@ -1,13 +1,13 @@
 -- The claims that a job's questions name or lead to through all literals of rules (01, 'Lists of calls'), and how a table shows the job
--- (THEORY 3: 2 and 4; 6).
+-- (THEORY 3: 4; 6).
 --   Job         workers, how many questions each has and of which claims, and Lit x y: y is the claim of a literal of a rule of x
 --   Led j c     a question names c or leads to it
---   Shows j s   cursors and counts of s are as the job has them
---   Known j s   what isn't fresh is led to, and the claims of answered questions are complete
+--   Shows j s   next literals and questions of s are the job's
+--   Known j s   what isn't fresh is led to
 use mathlib.Core.Path.{_≡_}
-use Prim.Native.Nat.{ℕ, suc, _≤_, _<_}
+use Prim.Native.Nat.{ℕ, suc, _<_}
 use Rattle.base.specs.Graph.{Reach}
-use Rattle.waiting.specs.State.{State, Done}
+use Rattle.waiting.specs.State.{State}
 
 pub record Job : Type 1 where
   pub workers : ℕ
@@ -20,10 +20,7 @@ pub data Led (j : Job) (c : ℕ) : Type 0 where
 
 pub record Shows (j : Job) (s : State) : Type 0 where
   pub next : {x y : ℕ} → s .next x ≡ suc y → j .Lit x y
-  pub all : {x y : ℕ} → s .next x ≡ 0 → j .Lit x y → s .Passed x y
   pub asks : {w q : ℕ} → s .asks w ≡ suc q → (w < j .workers) × (s .answered w < j .total w) × (j .question w (s .answered w) ≡ q)
-  pub over : {w : ℕ} → w < j .workers → s .asks w ≡ 0 → j .total w ≤ s .answered w
 
 pub record Known (j : Job) (s : State) : Type 0 where
   pub named : {c : ℕ} → 0 < s .mark c → Led j c
-  pub met : {w i : ℕ} → i < s .answered w → Done s (j .question w i)

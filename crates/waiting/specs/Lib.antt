@@ -3,4 +3,3 @@ pub mod Steps
 pub mod Bound
 pub mod Runs
 pub mod Led
-pub mod Shape

@@ -4,7 +4,7 @@
 --   State          a table: marks, opening numbers, cursors, awaited claims, questions
 --   Own s w c      c is open and w's
 --   Done s c       c is complete
---   Edge s x y     x leads to y: x has passed a literal of y, which isn't complete
+--   Edge s x y     x leads to y: x has passed a literal of y that still leads, and y isn't complete
 --   Mutual s x y   each of x and y is reached from the other
 --   Waits s w d    w awaits d, which isn't complete
 --   Next s v u     v waits on a claim of u
@@ -23,8 +23,9 @@ use Rattle.base.specs.Graph.{Reach}
 --   number c     the opening number;    opened   claims opened so far
 --   awaited w    the claim that w awaits + 1, or 0
 --   asks w       the claim of w's next question + 1, or 0 if it has none left;    answered w   how many are answered
---   cursor c     how many literals c has passed;    next c   the claim of its next literal + 1, or 0 if it has passed all
---   Passed x y   y is the claim of a literal that x has passed
+--   cursor c     how many literals c has passed, those skipped included;    next c   the claim of its next literal + 1, or 0 if it has passed all
+--   Passed x y   y is the claim of a literal that x has passed and that stands behind no complete false one of its rule
+--   Earlier x y  the same, and x has moved on since: the literal isn't the last one before the cursor
 pub record State : Type 1 where
   pub mark : ℕ → ℕ
   pub number : ℕ → ℕ
@@ -35,6 +36,8 @@ pub record State : Type 1 where
   pub cursor : ℕ → ℕ
   pub next : ℕ → ℕ
   pub Passed : ℕ → ℕ → Type 0
+  pub Earlier : ℕ → ℕ → Type 0
+  pub sooner : {x y : ℕ} → Earlier x y → Passed x y
 
 module _ (s : State) where
   pub record Own (w c : ℕ) : Type 0 where
@@ -80,7 +83,8 @@ module _ (s : State) where
     met : {q : ℕ} → s .asks w ≡ suc q → Done q → Asked w
     left : {q : ℕ} → s .asks w ≡ suc q → Goes w q → Asked w
 
-  -- THEORY 3, of its numbers: begun to counted 1 and 2, workers the ranges, order 6, owned to goes 7, grounded 8, asked 5 and 10, alone 11
+  -- THEORY 3, of its numbers: begun to counted 1 and 2, workers the ranges, order 6, owned to goes 7, grounded 8, asked 5 and 10, alone 11,
+  -- back 12
   pub record Inv (T : ℕ) : Type 0 where
     pub begun : {x y : ℕ} → s .Passed x y → 0 < s .mark x
     pub named : {x y : ℕ} → s .Passed x y → 0 < s .mark y
@@ -95,6 +99,7 @@ module _ (s : State) where
     pub grounded : (w : ℕ) → Grounded w
     pub asked : {w : ℕ} → Engaged w → Asked w
     pub alone : {w d x : ℕ} → s .awaited w ≡ suc d → s .asks w ≡ suc d → Own w x → ⊥
+    pub back : {x y : ℕ} → s .Earlier x y → s .mark y < 256 → Reach Edge y x
 
   pub record Newest (w n : ℕ) : Type 0 where
     pub its : Own w n

@@ -1,6 +1,8 @@
 -- What each kind of turn of worker w changes, of T workers (01, 'A turn of worker w'; THEORY 2 to 4).
 --   Same f g, But b f g              g is f, or is f but at b
 --   Stays s s′, Passes s s′ c b      no literal is passed, or c passes one, of claim b
+--   Skips s s′ c                     c's cursor moves over literals that lead nowhere
+--   Fades s s′                       no literal is passed; one may lead no more, behind one of a claim completed now
 --   Claims s s′, Opens s s′ w b      no claim is opened, completed or taken, or b, fresh, becomes open to w
 --   Workers s s′, Awaits s s′ w b    awaited claims and questions stay, or w comes to await b
 --   Within s w k v                   from v at most k moves, each to the owner of the claim awaited, meet w
@@ -12,6 +14,7 @@
 --   Woke, Answered, Completed        what a turn of that kind is, and what it changes; so are
 --   OpenedAsked, WaitsAsked          opened and waits at a question,
 --   PassedOn, Opened, WaitsOn, Took  passed, opened, waits and took at a literal
+--   Skipped                          passed, over the rest of a rule that has failed
 --   Step T w s s′                    a turn of w that isn't idle leads from s to s′
 --   Start s                          s is as starting leaves it
 --   Ready s w                        a turn of w isn't idle
@@ -31,15 +34,42 @@ But b f g = (k : ℕ) → (k ≡ b → ⊥) → g k ≡ f k
 pub record Stays (s s′ : State) : Type 0 where
   pub more : {x y : ℕ} → s′ .Passed x y → s .Passed x y
   pub less : {x y : ℕ} → s .Passed x y → s′ .Passed x y
+  pub earlier : {x y : ℕ} → s′ .Earlier x y → s .Earlier x y
   pub nexts : Same (s .next) (s′ .next)
   pub cursors : Same (s .cursor) (s′ .cursor)
+
+-- x moved on since it passed a literal of y, before the turn or in it, x being c
+pub data Left (s : State) (c x y : ℕ) : Type 0 where
+  ago : s .Earlier x y → Left s c x y
+  now : x ≡ c → s .Passed c y → Left s c x y
 
 pub record Passes (s s′ : State) (c b : ℕ) : Type 0 where
   pub more : {x y : ℕ} → s′ .Passed x y → Plus (s .Passed) c b x y
   pub less : {x y : ℕ} → Plus (s .Passed) c b x y → s′ .Passed x y
+  pub earlier : {x y : ℕ} → s′ .Earlier x y → Left s c x y
   pub nexts : But c (s .next) (s′ .next)
   pub cursor : s′ .cursor c ≡ suc (s .cursor c)
   pub cursors : But c (s .cursor) (s′ .cursor)
+
+pub record Skips (s s′ : State) (c : ℕ) : Type 0 where
+  pub more : {x y : ℕ} → s′ .Passed x y → s .Passed x y
+  pub less : {x y : ℕ} → s .Passed x y → s′ .Passed x y
+  pub earlier : {x y : ℕ} → s′ .Earlier x y → Left s c x y
+  pub nexts : But c (s .next) (s′ .next)
+  pub cursor : s .cursor c < s′ .cursor c
+  pub cursors : But c (s .cursor) (s′ .cursor)
+
+-- a literal of y that x has passed still leads, or stands behind one of z, completed in this turn
+pub data Faded (s s′ : State) (x y : ℕ) : Type 0 where
+  leads : s′ .Passed x y → Faded s s′ x y
+  behind : {z : ℕ} → s .Earlier x z → s .mark z < 256 → Done s′ z → Faded s s′ x y
+
+pub record Fades (s s′ : State) : Type 0 where
+  pub more : {x y : ℕ} → s′ .Passed x y → s .Passed x y
+  pub less : {x y : ℕ} → s .Passed x y → Faded s s′ x y
+  pub earlier : {x y : ℕ} → s′ .Earlier x y → s .Earlier x y
+  pub nexts : Same (s .next) (s′ .next)
+  pub cursors : Same (s .cursor) (s′ .cursor)
 
 pub data Within (s : State) (w : ℕ) : ℕ → ℕ → Type 0 where
   there : {k : ℕ} → Within s w k w
@@ -141,6 +171,12 @@ pub record PassedOn (s s′ : State) (w c b : ℕ) : Type 0 where
   pub workers : Workers s s′
   pub literals : Passes s s′ c b
 
+pub record Skipped (s s′ : State) (w c b : ℕ) : Type 0 where
+  pub at : AtLiteral s w c b
+  pub claims : Claims s s′
+  pub workers : Workers s s′
+  pub literals : Skips s s′ c
+
 pub record Opened (s s′ : State) (w c b : ℕ) : Type 0 where
   pub at : AtLiteral s w c b
   pub opens : Opens s s′ w b
@@ -177,7 +213,7 @@ pub record Completed (s s′ : State) (w n : ℕ) : Type 0 where
   pub opened : s′ .opened ≡ s .opened
   pub numbers : Same (s .number) (s′ .number)
   pub workers : Workers s s′
-  pub literals : Stays s s′
+  pub literals : Fades s s′
 
 pub data Step (T w : ℕ) (s s′ : State) : Type 0 where
   woke : Woke s s′ w → Step T w s s′
@@ -186,6 +222,7 @@ pub data Step (T w : ℕ) (s s′ : State) : Type 0 where
   waits-asked : {q : ℕ} → WaitsAsked s s′ w q → Step T w s s′
   completes : {n : ℕ} → Completed s s′ w n → Step T w s s′
   passed : {c b : ℕ} → PassedOn s s′ w c b → Step T w s s′
+  skipped : {c b : ℕ} → Skipped s s′ w c b → Step T w s s′
   opened : {c b : ℕ} → Opened s s′ w c b → Step T w s s′
   waits : {c b : ℕ} → WaitsOn s s′ T w c b → Step T w s s′
   took : {c b : ℕ} → Took s s′ T w c b → Step T w s s′

@@ -1,14 +1,14 @@
 -- `table::checks::most_passed` meets its contract: a claim has as many literals as lie between its entry of the index and the next.
 -- Assumes nothing.
-use Prim.Native.Nat.{_-_, _+_}
-use mathlib.Core.Path.{_≡_, sym, _∙_}
+use Prim.Native.Nat.{_-_, _+_, _≤_}
+use mathlib.Core.Path.{_≡_, sym, _∙_, ap}
 use native.Mathlib.Omega.{arith}
 use borrow.Author.Tests.{eq-eqb, ne-eqb}
-use borrow.Author.Needs.{needs}
 use lib.ListN.{length}
 use Rattle.base.proofs.Choose.{pick-true, pick-false}
 use Rattle.job.specs.Job.{literalsOf}
 use Rattle.job.specs.Format.{jobOf}
+use Rattle.job.specs.declared.Cursor.{Cursor}
 use Rattle.job.proofs.Contiguous.{claim-literals}
 use Rattle.table.proofs.checks.most_passed.Statement.{statement}
 use Rattle.table.proofs.checks.most_passed.Tie as tie
@@ -16,53 +16,25 @@ use Rattle.table.proofs.checks.most_passed.Tie as tie
 returns : tie.Need-returns
 returns c = sym (pick-true _ _ _ (eq-eqb _ _ (c .if1 .taken)))
 
-add-wide : tie.Need-add-wide
-add-wide c = search needs
+over-requires : tie.Need-over-requires
+over-requires c κs = let b = c .before .before in omega (arith, b .pre .1 .1, b .pre .0 .sized .claimsMost)
 
-mul-wide : tie.Need-mul-wide
-mul-wide c = search needs
-
-element-copy-out-wide : tie.Need-element-copy-out-wide
-element-copy-out-wide c = search needs
-
-wide-requires : tie.Need-wide-requires
-wide-requires c κs = search needs
-
-mul-wide-2 : tie.Need-mul-wide-2
-mul-wide-2 c = search needs
-
-element-copy-out-wide-2 : tie.Need-element-copy-out-wide-2
-element-copy-out-wide-2 c = search needs
-
-wide-requires-2 : tie.Need-wide-requires-2
-wide-requires-2 c κs = search needs
-
-sub-result : tie.Need-sub-result
-sub-result c =
-    let b = c .before .before .before .before .before .before in
-    let at = b .pre .1 .0 in
+-- what the index gives is where the claim's literals start and end
+count : (c : tie.After-struct-known) → (c .before .over .result .at ≤ c .before .over .result .end) × (c .before .over .result .end - c .before .over .result .at ≡ length (literalsOf (c .before .before .before .before .args .c) (jobOf (c .before .before .before .before .args .job .now) .rules)))
+count c =
+    let b = c .before .before .before .before in
+    let at = b .pre .1 .0 .starts in
     let l = claim-literals (b .args .job .now) (b .pre .0) (b .args .c) in
+    let e = c .before .over .ensures in
+    let x = ap (λ (y : Cursor). y .at) e in
+    let z = ap (λ (y : Cursor). y .end) e in
     omega (arith, at (b .args .c) (omega arith), at (b .args .c + 1) (omega arith))
 
+sub-result : tie.Need-sub-result
+sub-result c = count c .0
+
 returns-2 : tie.Need-returns-2
-returns-2 c =
-    let b = c .before .before .before .before .before .before in
-    let at = b .pre .1 .0 in
-    let l = claim-literals (b .args .job .now) (b .pre .0) (b .args .c) in
-    let n : c .before .before .wide .result - c .wide2 .result ≡ length (literalsOf (b .args .c) (jobOf (b .args .job .now) .rules)) = omega (arith, at (b .args .c) (omega arith), at (b .args .c + 1) (omega arith)) in
-    n ∙ sym (pick-false _ _ _ (ne-eqb _ _ (c .before .before .before .before .if1 .left)))
+returns-2 c = count c .1 ∙ sym (pick-false _ _ _ (ne-eqb _ _ (c .before .before .if1 .left)))
 
 pub most-passed-spec : {M : Type 1} → statement M
-most-passed-spec =
-    tie.close
-    (tie.spec
-    returns
-    add-wide
-    mul-wide
-    element-copy-out-wide
-    wide-requires
-    mul-wide-2
-    element-copy-out-wide-2
-    wide-requires-2
-    sub-result
-    returns-2)
+most-passed-spec = tie.close (tie.spec returns over-requires sub-result returns-2)

@@ -101,7 +101,7 @@ loop-again c =
     let c₃ = c₂ .before .before .before .before .before .before .before .before in
     let l = c₂ .before .before .loop in
     let r = c₂ .before .before .before .before .before .before .before .before .before .before .before .before .pre .0 in
-    (c .before .before .before .expand .kept .1 .1 .1 .1 .1 .0 ∙ l .inv .0, gathering-more _ _ _ r _ _ (l .inv .1) (c₂ .before .loop-test .taken) _ (c₂ .wide .ensures .value) _ (c₃ .rule-count .ensures .value) _ (c₁ .passed-over .ensures) _ (c .before .before .before .expand .ensures))
+    (c .before .before .before .expand .kept .1 .1 .1 .1 .1 .1 .0 ∙ l .inv .0, gathering-more _ _ _ r _ _ (l .inv .1) (c₂ .before .loop-test .taken) _ (c₂ .wide .ensures .value) _ (c₃ .rule-count .ensures .value) _ (c₁ .passed-over .ensures) _ (c .before .before .before .expand .ensures))
 
 same-length : tie.Need-same-length Inv-loop μ-loop
 same-length c = c .before .loop .inv .1 .fits .long ∙ sym (c .before .before .before .before .before .before .before .before .before .before .before .pre .1 .0)

@@ -1,0 +1,20 @@
+-- `turns::failing::failed` meets its contract. Assumes nothing.
+use borrow.Author.Needs.{needs}
+use Rattle.turns.proofs.Walk.{failed-is}
+use Rattle.turns.proofs.failing.failed.Statement.{statement}
+use Rattle.turns.proofs.failing.failed.Tie as tie
+
+claim-of-requires : tie.Need-claim-of-requires
+claim-of-requires c κs = search needs
+
+mark-at-requires : tie.Need-mark-at-requires
+mark-at-requires c κs = search needs
+
+false-mark-requires : tie.Need-false-mark-requires
+false-mark-requires c κs = search needs
+
+returns : tie.Need-returns
+returns c = failed-is _ _ (c .before .before .claim-of .ensures) (c .before .mark-at .ensures .value) (c .false-mark .ensures)
+
+pub failed-spec : {M : Type 1} → statement M
+failed-spec = tie.close (tie.spec claim-of-requires mark-at-requires false-mark-requires returns)
