@@ -5,6 +5,7 @@
 #[allow(dead_code)]
 mod library;
 mod prolog;
+#[allow(dead_code)]
 mod times;
 mod worst;
 
@@ -78,9 +79,9 @@ fn show(row: &Row) {
 /// The medians and extremes of the ratios over all fields.
 fn show_summary(rows: &[Row]) {
     println!();
-    show_spread("ours / oracle", rows.iter().map(|row| row.ours / row.oracle).collect());
+    show_spread("ours / oracle", rows.iter().map(|row| row.ours / row.oracle).collect(), "fields");
     let decided = rows.iter().filter_map(|row| row.prolog.ok().map(|seconds| seconds / row.ours));
-    show_spread("SWI-Prolog / ours", decided.collect());
+    show_spread("SWI-Prolog / ours", decided.collect(), "fields");
     let sum = |time: fn(&Row) -> f64| rows.iter().map(time).sum::<f64>();
     println!("all fields once: ours {:.2} s, oracle {:.2} s", sum(|row| row.ours), sum(|row| row.oracle));
 }

@@ -25,6 +25,20 @@ pub fn median_times<const N: usize>(mut calls: [&mut dyn FnMut(); N]) -> [f64; N
     times.map(median)
 }
 
+/// The same for calls on words that are put back before each.
+pub fn median_times_on<const N: usize>(words: &[u32], mut calls: [&mut dyn FnMut(&mut [u32]); N]) -> [f64; N] {
+    let start = Instant::now();
+    let mut lent = words.to_vec();
+    let mut times = [(); N].map(|()| Vec::new());
+    while times[0].is_empty() || (times[0].len() < OFTEN_ENOUGH && start.elapsed() < LONG_ENOUGH) {
+        for (times, call) in times.iter_mut().zip(&mut calls) {
+            lent.copy_from_slice(words);
+            times.push(time(&mut || call(&mut lent)));
+        }
+    }
+    times.map(median)
+}
+
 pub fn median(mut values: Vec<f64>) -> f64 {
     values.sort_by(f64::total_cmp);
     values[values.len() / 2]
@@ -39,11 +53,11 @@ pub fn ratio(over: f64, under: f64) -> String {
     }
 }
 
-/// Prints the median and the extremes of some ratios.
-pub fn show_spread(name: &str, mut ratios: Vec<f64>) {
+/// Prints the median and the extremes of some ratios, and of how many things.
+pub fn show_spread(name: &str, mut ratios: Vec<f64>, things: &str) {
     ratios.sort_by(f64::total_cmp);
     if let (Some(least), Some(most)) = (ratios.first(), ratios.last()) {
         let middle = ratios[ratios.len() / 2];
-        println!("{name}: least {least:.2}, median {middle:.2}, most {most:.2} ({} fields)", ratios.len());
+        println!("{name}: least {least:.2}, median {middle:.2}, most {most:.2} ({} {things})", ratios.len());
     }
 }

@@ -1,19 +1,22 @@
 //! Times whole runs on made fields: the library's and the oracle's, one after
 //! the other on the same job, schedule and table.  bench/run builds it; kinds
-//! may be named.
+//! may be named.  `turns times` prints the library's alone, for bench/before.
 
 #[path = "../tests/table/library.rs"]
 #[allow(dead_code)]
 mod library;
+#[allow(dead_code)]
 mod times;
 
 use oracle::checks::{part_input, Job};
 use oracle::jobs::generate;
-use oracle::turns::{run_listing, Layout, Table};
+use oracle::orders::Orders;
+use oracle::table::{Layout, Table};
+use oracle::turns::run_listing;
 use times::{median_times, ratio, show_spread};
 
 /// Kinds and the seeds of their fields.
-const FIELDS: [(&str, &[u64]); 11] = [
+const FIELDS: [(&str, &[u64]); 12] = [
     ("tiny", &[1, 2, 3]),
     ("small", &[1, 2, 3]),
     ("ring", &[1, 2, 3, 4]),
@@ -23,6 +26,7 @@ const FIELDS: [(&str, &[u64]); 11] = [
     ("random", &[1, 2, 3, 4]),
     ("cluster", &[1, 2, 3, 4]),
     ("tower", &[1, 2, 3, 4]),
+    ("failing", &[26, 36, 37, 44]),
     ("large", &[0, 1, 3, 4]),
     ("empty", &[1, 2]),
 ];
@@ -38,7 +42,7 @@ struct Field {
 /// The made schedule, then workers in turn until all is answered.
 fn whole_schedule(job: &Job, made: &[u8]) -> Vec<u8> {
     let mut schedule = Vec::new();
-    run_listing(job, made, false, |_, worker, _| schedule.push(worker as u8));
+    run_listing(job, Orders::in_force(), made, false, |_, worker, _| schedule.push(worker as u8));
     schedule
 }
 
@@ -61,7 +65,7 @@ fn run_ours(field: &Field, words: &mut [u32]) -> [u64; 8] {
 /// words where the library does; by the text, or with shortcuts.
 fn run_oracle(field: &Field, by_text: bool, words: &mut [u32]) -> [u64; 8] {
     let job = Job::check(&field.bytes).expect("a made field is accepted");
-    let mut table = Table::start(&job, by_text);
+    let mut table = Table::start(&job, Orders::in_force(), by_text);
     let mut tally = [0; 8];
     for &worker in &field.schedule {
         tally[table.turn(u32::from(worker)) as usize] += 1;
@@ -76,6 +80,15 @@ struct Row {
     text: f64,
     oracle: f64,
     turns: usize,
+}
+
+/// The library's seconds alone, and how many turns changed something.
+fn print_times(field: &Field) {
+    let job = Job::check(&field.bytes).expect("a made field is accepted");
+    let mut words = vec![0; Layout::of_job(&job).used];
+    let tally = run_ours(field, &mut words);
+    let [ours] = median_times([&mut || _ = run_ours(field, &mut words)]);
+    println!("{} {}\t{ours}\t{}", field.kind, field.seed, tally[1..].iter().sum::<u64>());
 }
 
 fn measure(field: &Field) -> Row {
@@ -124,16 +137,20 @@ const HEADING: &str = "\
 ";
 
 fn main() {
-    let named: Vec<String> = std::env::args().skip(1).collect();
+    let mut named: Vec<String> = std::env::args().skip(1).collect();
+    let times_only = named.first().is_some_and(|word| word == "times");
+    named.retain(|word| word != "times");
     let wanted = |kind: &str| named.is_empty() || named.iter().any(|name| name == kind);
-    print!("{HEADING}");
-    let mut rows = Vec::new();
-    for (kind, seeds) in FIELDS.into_iter().filter(|(kind, _)| wanted(kind)) {
-        rows.extend(seeds.iter().map(|&seed| measure(&make_field(kind, seed))));
+    let fields = FIELDS.into_iter().filter(|(kind, _)| wanted(kind));
+    let fields = fields.flat_map(|(kind, seeds)| seeds.iter().map(move |&seed| make_field(kind, seed)));
+    if times_only {
+        return fields.for_each(|field| print_times(&field));
     }
+    print!("{HEADING}");
+    let rows: Vec<Row> = fields.map(|field| measure(&field)).collect();
     println!();
-    show_spread("ours / text", rows.iter().map(|row| row.ours / row.text).collect());
-    show_spread("ours / oracle", rows.iter().map(|row| row.ours / row.oracle).collect());
+    show_spread("ours / text", rows.iter().map(|row| row.ours / row.text).collect(), "fields");
+    show_spread("ours / oracle", rows.iter().map(|row| row.ours / row.oracle).collect(), "fields");
     let microseconds = rows.iter().map(|row| 1e6 * row.ours / row.turns.max(1) as f64);
-    show_spread("ours, microseconds a turn", microseconds.collect());
+    show_spread("ours, microseconds a turn", microseconds.collect(), "fields");
 }

@@ -29,7 +29,7 @@ compare verdicts < JOB           the library's verdicts, claim and verdict a lin
 ";
 
 /// Kinds and how many jobs of each the gate compares.
-const GATE: [(&str, u64); 12] = [
+const GATE: [(&str, u64); 13] = [
     ("tiny", 6500),
     ("small", 6500),
     ("damaged", 5000),
@@ -41,6 +41,7 @@ const GATE: [(&str, u64); 12] = [
     ("ring", 200),
     ("chain", 100),
     ("tower", 200),
+    ("failing", 500),
     ("large", 50),
 ];
 

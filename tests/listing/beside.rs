@@ -4,6 +4,7 @@ use std::process::{exit, Output};
 
 use oracle::checks::read_input;
 use oracle::listing::listing;
+use oracle::orders::Orders;
 
 use crate::cost::steps;
 use crate::program::Program;
@@ -15,12 +16,12 @@ const FOLDER: &str = "target/tests";
 /// Lists an input and compares.  `name` is its kind and seed.  Where its turns
 /// would take more than `work` steps it is left out.
 pub fn compare(totals: &mut Totals, program: &Program, name: &str, input: &[u8], work: u64) {
-    let expected = listing(input, false);
+    let expected = listing(input, Orders::in_force(), false);
     if work < u64::MAX && takes(input, &expected) > work {
         totals.left_out += 1;
         return;
     }
-    totals.count(&expected);
+    totals.count(input, &expected);
     let answer = program.list(input).unwrap_or_else(|error| {
         eprintln!("listing: {} can't be run: {error}", program.path);
         exit(2);

@@ -4,6 +4,7 @@
 use oracle::checks::{half_at, word_at, HEADER_BYTES, MAX_INPUT_BYTES, MAX_JOB_BYTES};
 use oracle::damage::{put_half, put_word};
 use oracle::draft::{Draft, Random};
+use oracle::failing::make_failing;
 use oracle::jobs::{generate, make_cluster, make_negloop, make_ring, make_small, make_tiny, make_tower};
 
 /// The input of a kind and seed; none where no kind is called so.
@@ -20,12 +21,13 @@ pub fn made(kind: &str, seed: u64) -> Option<Vec<u8>> {
 }
 
 fn make_any(random: &mut Random) -> Draft {
-    match random.below(8) {
+    match random.below(9) {
         0 => make_negloop(random),
         1 => make_ring(random),
         2 => make_cluster(random),
         3 => make_tower(random),
-        4 | 5 => make_tiny(random),
+        4 => make_failing(random, 40),
+        5 | 6 => make_tiny(random),
         _ => make_small(random),
     }
 }

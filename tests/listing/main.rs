@@ -35,7 +35,7 @@ target/bin/verdicts.
 ";
 
 /// Kinds and how many inputs of each the gate lists.
-const GATE: [(&str, u64); 18] = [
+const GATE: [(&str, u64); 19] = [
     ("large", 6),
     ("tiny", 1200),
     ("small", 1200),
@@ -48,6 +48,7 @@ const GATE: [(&str, u64); 18] = [
     ("ring", 80),
     ("chain", 25),
     ("tower", 150),
+    ("failing", 600),
     ("table", 100),
     ("long", 150),
     ("cut", 500),

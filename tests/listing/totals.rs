@@ -1,5 +1,8 @@
 //! What was listed and what differs.
 
+use oracle::checks::read_input;
+use oracle::orders::{Orders, Skip};
+
 use crate::counts::{add, listed, unmet, KINDS};
 
 const VALUES: [&str; 4] = ["true", "false", "undefined", "unopened"];
@@ -17,6 +20,9 @@ pub struct Totals {
     kinds: [u64; 8],
     /// Claim lines by their value.
     values: [usize; 4],
+    /// Claims unopened though questions lead to them: every way to them stands
+    /// behind a false literal.
+    passed_over: usize,
     pub differences: usize,
 }
 
@@ -28,8 +34,8 @@ pub fn tally_of(listing: &str) -> Option<[u64; 8]> {
 }
 
 impl Totals {
-    /// Counts a listing as the oracle has it.
-    pub fn count(&mut self, listing: &str) {
+    /// Counts an input by its listing as the oracle has it.
+    pub fn count(&mut self, input: &[u8], listing: &str) {
         self.inputs += 1;
         let Some(tally) = tally_of(listing) else {
             let number = listing.split(' ').nth(1);
@@ -39,9 +45,11 @@ impl Totals {
         };
         self.accepted += 1;
         add(&mut self.kinds, &tally);
-        for line in listing.lines().skip(1).take_while(|line| !line.starts_with("questions")) {
+        let led_to = read_input(input).map_or(Vec::new(), |(job, _)| job.asked_closure());
+        for (line, led_to) in listing.lines().skip(1).zip(led_to) {
             let at = VALUES.iter().position(|value| line.ends_with(value)).expect("a claim line ends with a value");
             self.values[at] += 1;
+            self.passed_over += usize::from(led_to && VALUES[at] == "unopened");
         }
     }
 
@@ -62,13 +70,18 @@ impl Totals {
         add(&mut self.refused, &other.refused);
         add(&mut self.kinds, &other.kinds);
         add(&mut self.values, &other.values);
+        self.passed_over += other.passed_over;
     }
 
-    /// The gate must meet every kind of turn, every value and every refusal.
+    /// The gate must meet every kind of turn, every value and every refusal, and
+    /// under order 5 claims that were led to and passed over.
     pub fn expect_all_met(&mut self) {
         let mut missing = unmet(&KINDS, &self.kinds.map(|count| count as usize));
         missing.extend(unmet(&VALUES, &self.values));
         missing.extend(unmet(&NUMBERS, &self.refused).iter().map(|number| format!("refusal {number}")));
+        if Orders::in_force().skip != Skip::Off && self.passed_over == 0 {
+            missing.push("a claim led to and unopened".to_string());
+        }
         for name in missing {
             self.differ("the gate", &format!("{name} was never met"));
         }
@@ -77,7 +90,7 @@ impl Totals {
     /// The last lines: what was met, and how many differ.
     pub fn summary(&self) {
         println!("turns: {}", listed(&KINDS, &self.kinds));
-        println!("claim lines: {}", listed(&VALUES, &self.values));
+        println!("claim lines: {} ({} of them led to)", listed(&VALUES, &self.values), self.passed_over);
         let rows: Vec<String> =
             NUMBERS.iter().zip(self.refused).map(|(name, count)| format!("{name}: {count}")).collect();
         println!("refused by number {}", rows.join(", "));

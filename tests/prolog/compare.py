@@ -21,7 +21,7 @@ import model
 
 # Among these are jobs on which SWI-Prolog 9.0.4 shows a fault.
 GATE = ["tiny:0:80", "small:0:100", "small:2965:1", "negloop:0:90", "strat:0:30", "cluster:0:30", "cluster:148:1",
-        "tower:0:40", "random:0:20", "ring:0:20", "chain:0:10", "empty:0:10"]
+        "tower:0:40", "random:0:20", "ring:0:20", "chain:0:10", "failing:0:80", "empty:0:10"]
 ORACLE, COMPARE = "target/tests/oracle", "target/tests/compare"
 SECONDS = 60
 

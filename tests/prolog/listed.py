@@ -1,10 +1,15 @@
 """The listing program beside verdicts that SWI-Prolog was asked about: each
-claim line with a value and each question line must have the verdict."""
+claim line with a value and each question line must have the verdict, and a line
+may say `unopened` only where the specification lets it."""
 import os
 import struct
 import subprocess
 
+import model
+
 PROGRAM = os.environ.get("ZESTCHINTZ_VERDICTS", "target/bin/verdicts")
+# The orders in force; order 5 lets a claim behind a false literal stay unopened.
+ORDERS = int(os.environ.get("ZESTCHINTZ_ORDERS", "5"))
 # Larger jobs, with every claim asked, take the program too long.
 MOST_CLAIMS = 200
 SECONDS = 60
@@ -25,6 +30,44 @@ def lines_of(given):
     return [line.split() for line in run.stdout.decode().splitlines()]
 
 
+def needed(body, verdicts):
+    """The claims of a rule's body that must be complete: under order 5 those up
+    to the first false literal, else all."""
+    claims = []
+    for claim, negated in body:
+        claims.append(claim)
+        if ORDERS >= 5 and verdicts[claim] == ("true" if negated else "false"):
+            break
+    return claims
+
+
+def unopened_fault(given, values, verdicts):
+    """What is wrong with the lines that have no value: none may be a claim asked,
+    or needed by a rule of a claim with a value; and a claim with a value must be
+    asked or led to."""
+    questions, at = struct.unpack_from("<I", given, 20)[0], struct.unpack_from("<I", given, 32)[0]
+    asked = [struct.unpack_from("<2H", given, at + 4 * question)[1] for question in range(questions)]
+    bodies = {}
+    for head, body in model.rules_of(given)[1]:
+        bodies.setdefault(head, []).append(body)
+    led_to, new = set(asked), list(asked)
+    while new:
+        for claim, _ in sum(bodies.get(new.pop(), []), []):
+            if claim not in led_to:
+                led_to.add(claim)
+                new.append(claim)
+    wanted = set(asked)
+    for claim in range(len(values)):
+        if values[claim] != "unopened":
+            if claim not in led_to:
+                return "claim %d has a value, and no question leads to it" % claim
+            wanted.update(*(needed(body, verdicts) for body in bodies.get(claim, [])))
+    for claim in sorted(wanted):
+        if values[claim] == "unopened":
+            return "claim %d is unopened, and stands behind no false literal" % claim
+    return ""
+
+
 def fault_in(given, verdicts, full):
     """What differs in the listing of an accepted input, and how many of its claim
     lines have a value.  With `full` all must have one."""
@@ -39,7 +82,7 @@ def fault_in(given, verdicts, full):
     for claim, value in valued + asked:
         if value != verdicts[int(claim)]:
             return "the listing program says %s of claim %s, which is %s" % (value, claim, verdicts[int(claim)]), 0
-    return "", len(valued)
+    return unopened_fault(given, [line[1] for line in listed], verdicts), len(valued)
 
 
 def compare(made, verdicts):

@@ -1,7 +1,8 @@
 //! A table of the oracle's and one lent to the library, moved on side by side.
 
 use oracle::checks::{Job, Refusal};
-use oracle::turns::Table;
+use oracle::orders::Orders;
+use oracle::table::Table;
 
 use crate::calls::{Call, Given};
 use crate::lent::Lent;
@@ -25,7 +26,7 @@ pub struct Beside<'a> {
 impl<'a> Beside<'a> {
     /// `words` are what the lent table holds before it is started, and enough.
     pub fn new(name: &'a str, bytes: &'a [u8], job: &'a Job, words: Vec<u32>, totals: &'a mut Totals) -> Beside<'a> {
-        let mut table = Table::start(job, false);
+        let mut table = Table::start(job, Orders::in_force(), false);
         let lent = Lent::new(&words);
         table.words = words;
         Beside { name, bytes, kept: bytes.to_vec(), table, lent, totals, step: 0, apart: false }
@@ -33,7 +34,7 @@ impl<'a> Beside<'a> {
 
     /// Both make a call on the table they have.
     pub fn make(&mut self, call: &Call) -> Given {
-        let expected = call.by_oracle(&mut self.table);
+        let expected = call.by_oracle(&mut self.table, &mut self.totals.failed_in_lists);
         let length = self.table.words.len();
         let given = call.by_library(self.bytes, self.lent.table(length));
         self.compare(call, "", expected, given);
@@ -58,7 +59,7 @@ impl<'a> Beside<'a> {
     pub fn make_damaged(&mut self, call: &Call, at: usize, value: u32) {
         let mut words = self.table.words.clone();
         words[at] = value;
-        let Err(refusal) = Table::from_words(self.table.job, words) else { return };
+        let Err(refusal) = Table::from_words(self.table.job, self.table.orders, words) else { return };
         let length = self.table.words.len();
         let kept = std::mem::replace(&mut self.table.words[at], value);
         self.lent.table(length)[at] = value;

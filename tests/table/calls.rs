@@ -4,8 +4,10 @@
 use std::fmt;
 
 use oracle::checks::{check_schedule, refuse, Job, Refusal};
-use oracle::turns::{Layout, Table};
+use oracle::orders::Orders;
+use oracle::table::{Layout, Table};
 
+use crate::failed::{self, Met};
 use crate::library;
 
 #[derive(Clone)]
@@ -79,8 +81,9 @@ impl Call {
     }
 
     /// The oracle makes the call on a table that passed the checks before:
-    /// checks 11 and 12 are left, and `table` moves on.
-    pub fn by_oracle(&self, table: &mut Table) -> Given {
+    /// checks 11 and 12 are left, and `table` moves on.  `met` counts what its
+    /// turns meet of failed rules.
+    pub fn by_oracle(&self, table: &mut Table, met: &mut Met) -> Given {
         let mut tally = [0; 8];
         let answer = match self {
             Call::Start => {
@@ -90,10 +93,10 @@ impl Call {
                 Ok(0)
             }
             Call::Turn(worker) if *worker >= table.job.workers => refuse(11, 0),
-            Call::Turn(worker) => Ok(table.turn(*worker as u32) as u64),
+            Call::Turn(worker) => Ok(failed::turn(table, *worker as u32, met) as u64),
             Call::Run(schedule) => check_schedule(table.job, schedule).map(|()| {
                 for &worker in schedule {
-                    tally[table.turn(u32::from(worker)) as usize] += 1;
+                    tally[failed::turn(table, u32::from(worker), met) as usize] += 1;
                 }
                 0
             }),
@@ -104,7 +107,7 @@ impl Call {
     }
 
     /// The oracle makes the call on any job and any words, with all checks.
-    pub fn on_words(&self, job: &Result<Job, Refusal>, words: &mut Vec<u32>) -> Given {
+    pub fn on_words(&self, job: &Result<Job, Refusal>, words: &mut Vec<u32>, met: &mut Met) -> Given {
         let job = match job {
             Err(refusal) => return Given::refused(*refusal),
             Ok(job) => job,
@@ -117,10 +120,10 @@ impl Call {
             start_words(job, words);
             return Given { code: 0, tally: [0; 8] };
         }
-        match Table::from_words(job, words.clone()) {
+        match Table::from_words(job, Orders::in_force(), words.clone()) {
             Err(refusal) => Given::refused(refusal),
             Ok(mut table) => {
-                let given = self.by_oracle(&mut table);
+                let given = self.by_oracle(&mut table, met);
                 *words = table.words;
                 given
             }
@@ -130,7 +133,7 @@ impl Call {
 
 /// Starting: the words used, and no word after these.
 fn start_words(job: &Job, words: &mut [u32]) {
-    let started = Table::start(job, true).words;
+    let started = Table::start(job, Orders::in_force(), true).words;
     words[..started.len()].copy_from_slice(&started);
 }
 

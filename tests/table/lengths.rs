@@ -47,7 +47,7 @@ pub fn long_tables(totals: &mut Totals) {
         let name = format!("the edge job's table in {length} words");
         let mut words = vec![0; 2048];
         for call in [Call::Start, Call::Turn(0), Call::Run(vec![1, 0, 0, 1]), Call::Read(0), Call::Turn(2)] {
-            let expected = call.on_words(&job, &mut words);
+            let expected = call.on_words(&job, &mut words, &mut totals.failed_on_tables);
             let given = call.by_library(&base, table);
             expect(totals, &name, &call, expected, given);
             if table[..2048] != words || table[length - 1024..].iter().any(|&word| word != 0) {

@@ -5,7 +5,9 @@
 use oracle::checks::{check_schedule, part_input, Job};
 use oracle::draft::Random;
 use oracle::model::{well_founded, Program, Verdict};
-use oracle::turns::Layout;
+use oracle::orders::Orders;
+use oracle::promises::{check_end, check_values};
+use oracle::table::{Layout, Table};
 
 use crate::beside::Beside;
 use crate::calls::Call;
@@ -153,18 +155,14 @@ impl List<'_> {
         turns
     }
 
-    fn most_rounds(&self) -> usize {
-        2 * self.job.literals.len() + self.job.claims + 3 * self.job.questions.len()
-    }
-
     /// Rounds until all is answered, in stretches; 2L + A + 3Q must be enough.
     fn answer_all(&mut self) {
         let mut rounds = 0;
         while !self.beside.table.all_answered() && self.going() {
-            if rounds >= self.most_rounds() {
+            if rounds >= self.job.promised_rounds() {
                 return self.beside.differ(&format!("not all is answered after {rounds} rounds"));
             }
-            let stretch = self.random.within(1, 8).min(self.most_rounds() - rounds);
+            let stretch = self.random.within(1, 8).min(self.job.promised_rounds() - rounds);
             let turns: Vec<u8> = (0..stretch).flat_map(|_| self.round()).collect();
             self.take(&turns);
             rounds += stretch;
@@ -177,7 +175,7 @@ impl List<'_> {
         for worker in 0..self.job.workers {
             self.call(&Call::Turn(worker), 1);
         }
-        let rounds = self.most_rounds().clamp(1, 1 + IDLE_TURNS / self.job.workers);
+        let rounds = self.job.promised_rounds().clamp(1, 1 + IDLE_TURNS / self.job.workers);
         let turns: Vec<u8> = (0..rounds).flat_map(|_| self.round()).collect();
         let given = self.beside.make(&Call::Run(turns.clone()));
         if given.tally[0] != turns.len() as u64 || self.beside.lent_words() != before {
@@ -207,19 +205,17 @@ impl List<'_> {
     }
 
     /// All questions are answered, with the verdicts of the claims they ask for;
-    /// exactly what they lead to is complete.
+    /// what is complete is what demand 3 promises.
     fn expect_answers(&mut self) {
-        self.expect_verdicts();
-        let layout = self.beside.table.layout;
         let words = self.beside.lent_words().to_vec();
-        for (question, &(_, claim)) in self.job.questions.iter().enumerate() {
-            if words[layout.questions_at + question] != self.verdicts[claim as usize] as u32 {
-                self.beside.differ(&format!("the answer of question {question} isn't its claim's verdict"));
+        let promised = match Table::from_words(self.job, Orders::in_force(), words) {
+            Err(refusal) => Err(format!("its table is refused: {refusal:?}")),
+            Ok(table) => {
+                check_values(&table, &self.verdicts).and_then(|()| check_end(&table, &self.job.asked_closure()))
             }
-        }
-        let asked = self.job.asked_closure();
-        if (0..self.job.claims).any(|claim| (words[8 + 3 * claim] >= 256) != asked[claim]) {
-            self.beside.differ("what is complete isn't what the questions lead to");
+        };
+        if let Err(fault) = promised {
+            self.beside.differ(&format!("all is answered, and {fault}"));
         }
     }
 }

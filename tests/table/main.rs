@@ -8,6 +8,7 @@ mod beside;
 mod calls;
 #[path = "../compare/counts.rs"]
 mod counts;
+mod failed;
 mod lengths;
 mod lent;
 mod library;
@@ -30,6 +31,7 @@ table                                  all that the gate runs
 table made KINDS FROM COUNT [whole]    made jobs of these kinds (commas between, or `all`),
                                        COUNT seeds each, the first of them FROM; with
                                        `whole` no list is ended early
+table orders                           edge cases of the change orders
 table lengths                          lengths of 4 GiB and more
 
 Kinds: those of `oracle kinds`, each a list of calls from a start; `table`, tables
@@ -37,17 +39,18 @@ that no run made; `words`, tables with words out of range.
 ";
 
 /// Kinds and how many jobs of each the gate compares.
-const GATE: [(&str, u64); 15] = [
+const GATE: [(&str, u64); 16] = [
     ("tiny", 1500),
     ("small", 1500),
-    ("table", 1500),
+    ("failing", 3000),
+    ("table", 8000),
     ("words", 120),
     ("damaged", 1000),
     ("empty", 100),
     ("edge", 160),
     ("tower", 150),
     ("negloop", 30),
-    ("strat", 15),
+    ("strat", 40),
     ("cluster", 15),
     ("random", 8),
     ("ring", 15),
@@ -100,6 +103,7 @@ fn compare_lengths(all: &mut Totals) {
 
 fn compare_gate(all: &mut Totals) {
     compare_lengths(all);
+    part(all, "edge cases of orders", single::compare_order_edges);
     for (kind, count) in GATE {
         part(all, kind, |totals| compare_made(totals, kind, 0, count, GATE_WORK));
     }
@@ -113,6 +117,7 @@ fn main() {
     match words.as_slice() {
         [] => compare_gate(&mut all),
         ["lengths"] => compare_lengths(&mut all),
+        ["orders"] => part(&mut all, "edge cases of orders", single::compare_order_edges),
         ["made", kinds, from, count, rest @ ..] => {
             let (Ok(from), Ok(count)) = (from.parse(), count.parse()) else { refuse(USAGE) };
             let work = match rest {

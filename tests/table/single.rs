@@ -4,7 +4,9 @@
 use oracle::checks::{part_input, word_at, Job, Refusal};
 use oracle::draft::Random;
 use oracle::jobs::generate;
-use oracle::turns::{Layout, Table};
+use oracle::order_edges::{order_edges, EdgeCall};
+use oracle::orders::Orders;
+use oracle::table::{Layout, Table};
 
 use crate::calls::Call;
 use crate::lent::Lent;
@@ -29,7 +31,7 @@ impl Single<'_> {
     /// Both make the call on these words.  Answers the words it must leave.
     fn make(&self, totals: &mut Totals, how: &str, words: &[u32], call: &Call) -> Vec<u32> {
         let mut after = words.to_vec();
-        let expected = call.on_words(&self.job, &mut after);
+        let expected = call.on_words(&self.job, &mut after, &mut totals.failed_on_tables);
         totals.count(call, &expected, self.layout.as_ref());
         let mut lent = Lent::new(words);
         let given = call.by_library(self.bytes, lent.table(words.len()));
@@ -78,6 +80,18 @@ pub fn compare_table(totals: &mut Totals, name: &str, input: &[u8]) {
     }
 }
 
+/// The edge cases of the orders in force, each a call on a table.
+pub fn compare_order_edges(totals: &mut Totals) {
+    for edge in order_edges().into_iter().filter(|edge| edge.orders == Orders::in_force()) {
+        totals.jobs += 1;
+        let call = match edge.call {
+            EdgeCall::Turn(worker) => Call::Turn(worker as usize),
+            EdgeCall::Run(schedule) => Call::Run(schedule),
+        };
+        Single::new(&edge.name, &edge.job).make(totals, "the edge case", &edge.table, &call);
+    }
+}
+
 /// A table in range of a small job: one that turns made, or one that none did.
 fn table_in_range(seed: u64, random: &mut Random) -> (Vec<u8>, Vec<u32>) {
     let kind = random.pick(&["tiny", "tiny", "small", "table"]);
@@ -86,11 +100,11 @@ fn table_in_range(seed: u64, random: &mut Random) -> (Vec<u8>, Vec<u32>) {
     let job = Job::check(bytes).expect("a made job is accepted");
     if kind == "table" {
         let words = rest.chunks_exact(4).map(|word| word_at(word, 0)).collect();
-        if let Ok(table) = Table::from_words(&job, words) {
+        if let Ok(table) = Table::from_words(&job, Orders::in_force(), words) {
             return (bytes.to_vec(), table.words);
         }
     }
-    let mut table = Table::start(&job, true);
+    let mut table = Table::start(&job, Orders::in_force(), true);
     for _ in 0..random.within(0, 5 * job.claims) {
         table.turn(random.below(job.workers) as u32);
     }

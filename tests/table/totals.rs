@@ -1,9 +1,11 @@
 //! What was compared and what differs.
 
-use oracle::turns::Layout;
+use oracle::orders::{Orders, Skip};
+use oracle::table::Layout;
 
 use crate::calls::{Call, Given};
 use crate::counts::{add, listed, unmet, KINDS};
+use crate::failed::{Met, SORTS, SORTS_OF_LISTS};
 
 /// At most this many differences are printed.
 const PRINTED: usize = 20;
@@ -24,6 +26,10 @@ pub struct Totals {
     /// Refusals by number, and those of number 10 by the part of the table.
     pub refused: [usize; 13],
     pub bad_words: [usize; 8],
+    /// What turns met of failed rules, in lists from a start and on tables that
+    /// no run made.
+    pub failed_in_lists: Met,
+    pub failed_on_tables: Met,
     pub differences: usize,
 }
 
@@ -80,9 +86,12 @@ impl Totals {
         add(&mut self.readings, &other.readings);
         add(&mut self.refused, &other.refused);
         add(&mut self.bad_words, &other.bad_words);
+        add(&mut self.failed_in_lists, &other.failed_in_lists);
+        add(&mut self.failed_on_tables, &other.failed_on_tables);
     }
 
-    /// The gate must meet every kind of turn, every reading and every refusal.
+    /// The gate must meet every kind of turn, every reading, every refusal and,
+    /// under order 5, every sort of failed rule.
     pub fn expect_all_met(&mut self) {
         let refusals: Vec<String> = (1..=12).map(|number| format!("refusal {number}")).collect();
         let refusals: Vec<&str> = refusals.iter().map(String::as_str).collect();
@@ -90,6 +99,11 @@ impl Totals {
         missing.extend(unmet(&READINGS, &self.readings));
         missing.extend(unmet(&refusals, &self.refused[1..]));
         missing.extend(unmet(&PARTS, &self.bad_words));
+        if Orders::in_force().skip != Skip::Off {
+            let in_lists = unmet(&SORTS[..SORTS_OF_LISTS], &self.failed_in_lists);
+            missing.extend(in_lists.iter().map(|sort| format!("{sort} in a list")));
+            missing.extend(unmet(&SORTS, &self.failed_on_tables).iter().map(|sort| format!("{sort} on a table")));
+        }
         for name in missing {
             self.differ("the gate", &format!("{name} was never met"));
         }
@@ -102,6 +116,8 @@ impl Totals {
         let rows: Vec<String> = (1..=12).map(|number| format!("{number}: {}", self.refused[number])).collect();
         println!("refused by number {}", rows.join(", "));
         println!("refused by 10 at: {}", listed(&PARTS, &self.bad_words));
+        println!("failed rules in lists: {}", listed(&SORTS, &self.failed_in_lists));
+        println!("failed rules on tables that no run made: {}", listed(&SORTS, &self.failed_on_tables));
         if self.differences > 0 {
             println!("a made job alone: table made KIND SEED 1");
         }
