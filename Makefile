@@ -1,6 +1,6 @@
 # make run      builds the listing program, and lists an example field
 # make c        builds the library, and runs the example in C on it
-# make test     all tests, then the proofs from nothing: what the gate does
+# make test     the proofs from nothing, then all tests: what the gate does
 # make bench    plain evaluation and runs beside other evaluators, as ratios
 SHELL = /bin/bash
 .SHELLFLAGS = -o pipefail -c

@@ -1,6 +1,6 @@
 -- Where the rules of one claim end among its literals, and that the index holds it. Assumes nothing.
 --   end-most, end-more, end-same   past the literal, within the claim's literals, and one for all literals of a rule
---   RuleAt, rule-at                where one rule stands among the literals of its head
+--   RuleAt, rule-at                where one rule stands among the literals of its head;    Holding, rule-holding   which rule has a literal
 --   seek-.., end-here-in, end-next-in   the end of a literal's rule by the index, literal by literal
 --   end-in                         it is the rule's
 --   bounds-start, -more, -kept     the index as it is filled
@@ -8,11 +8,11 @@ use Prim.Native.Nat.{ℕ, zero, suc, _+_, _-_, _≤_, _<_}
 use mathlib.Core.Path.{_≡_, refl, sym, _∙_, ap, subst}
 use mathlib.Core.Logic.{by-cases, ⊎-elim}
 use mathlib.Core.Bool.{Bool, true, false, not, cond}
-use mathlib.Core.List.{List, [], _∷_, _++_, List·Memᴰ·not-nil, List·Memᴰ·cases-cons}
+use mathlib.Core.List.{List, [], _∷_, _++_, List·Memᴰ·head, List·Memᴰ·tail, List·Memᴰ·not-nil, List·Memᴰ·cases-cons}
 use native.Mathlib.Omega.{arith}
 use native.Mathlib.Nat.{zero-add}
 use native.Mathlib.Decide.{ℕ-discrete, decLt}
-use borrow.Author.Tests.{eq-eqb}
+use borrow.Author.Tests.{eq-eqb, ne-eqb}
 use lib.ListN.{length, getD, set, replicate, length-append, List·getD-append, getD-replicate}
 use lib.Seq.{getD-set-same, getD-set-other, getD-append-add}
 use lib.Dec.{eqb, ltb, ltb→lt, lt→ltb}
@@ -136,6 +136,39 @@ rule-at c [] r i h = absurd (List·Memᴰ·not-nil i)
 rule-at c (x ∷ rs) r i h =
     ⊎-elim (λ e. subst (RuleAt c (x ∷ rs)) (sym e) (at-first c x rs (ap (λ (y : Rule). y .head) (sym e) ∙ h)))
     (λ m. at-later c x rs (rule-at c rs r m h)) (List·Memᴰ·cases-cons i)
+
+-- the rule that has literal k of c
+pub record Holding (c : ℕ) (rs : List Rule) (k : ℕ) : Type 0 where
+  pub rule : Rule
+  pub is : rule ∈ rs
+  pub headed : rule .head ≡ c
+  pub at : RuleAt c rs rule
+  pub from : at .from ≤ k
+  pub to : k < at .from + length (rule .body)
+
+own-head : (c : ℕ) (r : Rule) → 0 < length (own-part c r) → r .head ≡ c
+own-head c r l =
+    by-cases (ℕ-discrete (r .head) c) (λ e. e)
+    (λ n. absurd (omega (arith, ap (λ (b : Bool). length (cond b (r .body) [])) (ne-eqb (r .head) c n))))
+
+pub rule-holding : (c : ℕ) (rs : List Rule) (k : ℕ) → k < length (literalsOf c rs) → Holding c rs k
+unfolding at-first at-later
+rule-holding c [] k l = absurd (omega (arith, none-length c))
+rule-holding c (x ∷ rs) k l =
+    by-cases (decLt k (length (own-part c x)))
+    (λ h.
+    let e = own-head c x (omega arith) in
+    record { rule = x; is = List·Memᴰ·head refl; headed = e; at = at-first c x rs e; from = omega arith; to = omega (arith, ap length (own-whole c x e)) })
+    (λ h.
+    let p = rule-holding c rs (k - length (own-part c x)) (omega (arith, part-length c x rs)) in
+    record {
+      rule = p .rule;
+      is = List·Memᴰ·tail (p .is);
+      headed = p .headed;
+      at = at-later c x rs (p .at);
+      from = omega (arith, p .from);
+      to = omega (arith, p .to);
+    })
 
 -- rules, and more rules
 append-first : (c : ℕ) (x y : List Rule) (k : ℕ) → k < length (literalsOf c x) → ruleEnd c (x ++ y) k ≡ ruleEnd c x k

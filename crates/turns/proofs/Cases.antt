@@ -21,10 +21,10 @@ use Rattle.base.specs.Lists.{upto, keep, every}
 use Rattle.base.proofs.Bools.{and-in, and-left, and-right}
 use Rattle.base.proofs.Choose.{pick-elim}
 use Rattle.base.proofs.Lists.{In, in-upto, upto-in, in-keep, keep-in, every-in, in-every}
-use Rattle.job.specs.Job.{Job, ruleEnd}
+use Rattle.job.specs.Job.{Job}
 use Rattle.table.specs.Questions.{askedBy, questionClaim}
 use Rattle.table.specs.Layout as W
-use Rattle.turns.specs.Turn.{Turned, lits, reached, newest, allPassed, completedMark, openClaim, markAll, meets, askTurn, passTurn, workTurn, turn, clear}
+use Rattle.turns.specs.Turn.{Turned, lits, reached, newest, allPassed, completedMark, openClaim, markAll, meets, askTurn, passTurn, workTurn, turn, clear, skipEnd}
 use Rattle.turns.specs.declared.Kind.the-variants.{Idle, Woke, Opened, Waits, Took, Passed, Completed, Answered}
 use Rattle.turns.proofs.Behind.{Behind, clear-not, behind-of}
 use Rattle.turns.proofs.Tests.{is-eq, not-eq, eq-not}
@@ -64,7 +64,7 @@ moved t c = set t (W.cursorWord c) (W.cursor t c + 1)
 
 -- c's cursor at the end of the rule of its next literal
 abbrev pub skipped : Job → List ℕ → ℕ → List ℕ
-skipped j t c = set t (W.cursorWord c) (ruleEnd c (j .rules) (W.cursor t c))
+skipped j t c = set t (W.cursorWord c) (skipEnd j t c)
 
 -- no earlier literal of that rule is complete and false
 abbrev pub Clear : Job → List ℕ → ℕ → Type 0

@@ -5,10 +5,10 @@ use mathlib.Core.List.{List}
 use Prim.Native.Nat.{ℕ, _+_, _<_}
 use native.Mathlib.Omega.{arith}
 use lib.ListN.{getD, set, length-set}
-use Rattle.job.specs.Job.{Job, ruleEnd}
+use Rattle.job.specs.Job.{Job}
 use Rattle.table.specs.Layout as W
 use Rattle.table.specs.Ranges.{InRange}
-use Rattle.turns.specs.Turn.{kindNumber, Turned, reached, completedMark, markAll, turn}
+use Rattle.turns.specs.Turn.{kindNumber, Turned, reached, completedMark, markAll, turn, skipEnd}
 use Rattle.turns.specs.declared.Kind.{Kind}
 use Rattle.turns.specs.declared.Kind.the-variants.{Idle}
 use Rattle.turns.proofs.Jobs.{JobOk, lits-length}
@@ -68,7 +68,7 @@ module _ (j : Job) (J : JobOk j) (t : List ℕ) (R : InRange j t) (w : ℕ) (sma
       changed (λ e. omega (arith, ap kindNumber e)) (W.cursorWord c)
       (λ e.
       omega
-      (arith, X.same t (W.cursorWord c) (ruleEnd c (j .rules) (W.cursor t c)) (omega (arith, R .room, c-low J R small a)), end-more c (j .rules) (W.cursor t c) (omega (arith, c-room J R small a, lits-length j c))))
+      (arith, X.same t (W.cursorWord c) (skipEnd j t c) (omega (arith, R .room, c-low J R small a)), end-more c (j .rules) (W.cursor t c) (omega (arith, c-room J R small a, lits-length j c))))
   case-result r (opens {c = c} a b f) =
       changed (λ e. omega (arith, ap kindNumber e)) (W.markWord (literal j t c))
       (λ e.

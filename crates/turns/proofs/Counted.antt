@@ -4,10 +4,10 @@ use mathlib.Core.Path.{_≡_, refl, _∙_, ap}
 use mathlib.Core.List.{List}
 use Prim.Native.Nat.{ℕ, _+_, _<_}
 use native.Mathlib.Omega.{arith}
-use Rattle.job.specs.Job.{Job, ruleEnd}
+use Rattle.job.specs.Job.{Job}
 use Rattle.table.specs.Layout as W
 use Rattle.table.specs.Ranges.{InRange}
-use Rattle.turns.specs.Turn.{kindNumber, Turned, reached, completedMark, turn}
+use Rattle.turns.specs.Turn.{kindNumber, Turned, reached, completedMark, turn, skipEnd}
 use Rattle.turns.specs.declared.Kind.{Kind}
 use Rattle.turns.specs.declared.Kind.the-variants.{Answered}
 use Rattle.turns.proofs.Jobs.{JobOk}
@@ -45,7 +45,7 @@ module _ (j : Job) (J : JobOk j) (t : List ℕ) (R : InRange j t) (w : ℕ) (sma
   case-counted r (sticks a b c) = none _ t (λ e. omega (arith, ap kindNumber e)) (λ u. refl)
   case-counted r (passes {c = c} a b f) = none _ _ (λ e. omega (arith, ap kindNumber e)) (X.cursor-answered j t c (W.cursor t c + 1) (c-low J R small a))
   case-counted r (skips {c = c} a b) =
-      none _ _ (λ e. omega (arith, ap kindNumber e)) (X.cursor-answered j t c (ruleEnd c (j .rules) (W.cursor t c)) (c-low J R small a))
+      none _ _ (λ e. omega (arith, ap kindNumber e)) (X.cursor-answered j t c (skipEnd j t c) (c-low J R small a))
   case-counted r (opens {c = c} a b f) =
       none _ _ (λ e. omega (arith, ap kindNumber e))
       (λ u.

@@ -8,6 +8,7 @@ use Rattle.job.specs.declared.Check.the-variants.{Accepted}
 use Rattle.turns.specs.Promise.{Promise}
 use Rattle.turns.proofs.OnLists.{answer-is, on-accepted, on-verdicts, on-values, on-holds, on-quiet, on-changes, on-rounds}
 use Rattle.turns.proofs.Named.{on-claims, on-literals}
+use Rattle.turns.proofs.Opening.{on-opened}
 use Rattle.turns.proofs.Alone.{alone-accepted, alone-answers, on-answers}
 
 pub promise : (s : List ℕ) → Accepted ≡ checkJob s → Promise s
@@ -17,6 +18,7 @@ promise s e =
       values = on-values s e;
       claims = λ t f xs. on-claims s e t f xs;
       literals = λ t f xs. on-literals s e t f xs;
+      opened = λ t f xs. on-opened s e t f xs;
       accepted = λ t f xs. on-accepted s e t f xs;
       answers = on-answers s e;
       aloneAccepted = alone-accepted s e;

@@ -14,7 +14,7 @@ use Rattle.base.proofs.Lists.{In, in-head, in-tail, InCons, first, later, in-ca
 use Rattle.job.specs.Job.{Job}
 use Rattle.table.specs.Layout as W
 use Rattle.waiting.specs.State.{Edge}
-use Rattle.turns.specs.Turn.{lits, clear, leads, reached}
+use Rattle.turns.specs.Turn.{lits, clear, leading, leads, reached}
 use Rattle.turns.proofs.Jobs.{JobOk}
 use Rattle.turns.proofs.Reached.{Leads, reached-in, in-reached}
 use Rattle.turns.proofs.Behind.{Behind, clear-not, clear-of}
@@ -47,7 +47,7 @@ pub record At (j : Job) (t : List ℕ) (c d : ℕ) : Type 0 where
 
 module _ (j : Job) (J : JobOk j) (t : List ℕ) where
   abbrev places : ℕ → List ℕ
-  places c = keep (λ k. ltb k (W.cursor t c) && clear j t c k) (upto (length (lits j c)))
+  places c = keep (leading j t c) (upto (length (lits j c)))
 
   abbrev lit : ℕ → ℕ → ℕ
   lit c k = getD (lits j c) k 0
@@ -57,7 +57,7 @@ module _ (j : Job) (J : JobOk j) (t : List ℕ) where
   leads-passed {c} {d} l =
       let k = keep-in (λ d. not (W.complete t d)) d (map (lit c) (places c)) (l .leads-in) in
       let m = map-in (lit c) (places c) d (k .0) in
-      let p = keep-in (λ k. ltb k (W.cursor t c) && clear j t c k) (m .0) (upto (length (lits j c))) (m .1) in (
+      let p = keep-in (leading j t c) (m .0) (upto (length (lits j c))) (m .1) in (
         record {
           at = m .0;
           before = ltb→lt (m .0) (W.cursor t c) (and-left (ltb (m .0) (W.cursor t c)) (clear j t c (m .0)) (p .1));
@@ -87,7 +87,7 @@ module _ (j : Job) (J : JobOk j) (t : List ℕ) where
   unfolding leads
   passed-leads {c} {d} k before real is free m =
       let p : In k (places c) =
-      in-keep (λ k. ltb k (W.cursor t c) && clear j t c k) k (upto (length (lits j c))) (in-upto k (length (lits j c)) real)
+      in-keep (leading j t c) k (upto (length (lits j c))) (in-upto k (length (lits j c)) real)
       (and-in (ltb k (W.cursor t c)) (clear j t c k) (lt→ltb k (W.cursor t c) before) (clear-of j t c k free)) in
       let i : In d (map (lit c) (places c)) = subst (λ (y : ℕ). In y (map (lit c) (places c))) is (in-map (lit c) (places c) k p) in
       record {

@@ -6,12 +6,12 @@ use Prim.Native.Nat.{ℕ, _+_, _≤_, _<_}
 use native.Mathlib.Omega.{arith}
 use native.Mathlib.Decide.{ℕ-discrete, decLe}
 use lib.ListN.{length, getD}
-use Rattle.job.specs.Job.{Job, ruleEnd}
+use Rattle.job.specs.Job.{Job}
 use Rattle.model.specs.Model.{byteOf}
 use Rattle.table.specs.Questions.{askedBy, claimAsked, questionClaim}
 use Rattle.table.specs.Layout as W
 use Rattle.table.specs.Ranges.{InRange}
-use Rattle.turns.specs.Turn.{Turned, reached, completedMark, turn}
+use Rattle.turns.specs.Turn.{Turned, reached, completedMark, turn, skipEnd}
 use Rattle.turns.proofs.Places.{place-low, place-once}
 use Rattle.turns.proofs.Jobs.{JobOk}
 use Rattle.turns.proofs.Edges.{in-low}
@@ -134,7 +134,7 @@ module _ (j : Job) (J : JobOk j) (t : List ℕ) (R : InRange j t) where
         (λ c i. (in-low j J t c (a .low) i, omega (arith, b c i .0, J .few))) (λ c l. completed-right G c) (omega (arith, R .room)))
     effect r (sticks a b c) = still
     effect r (passes {c = c} a b f) = steady (moved-steady t c (c-low J R small a))
-    effect r (skips {c = c} a b) = steady (cursor-steady t c (ruleEnd c (j .rules) (W.cursor t c)) (c-low J R small a))
+    effect r (skips {c = c} a b) = steady (cursor-steady t c (skipEnd j t c) (c-low J R small a))
     effect r (opens {c = c} a b f) =
         let l = b-low J R small a in
         steady

@@ -3,10 +3,10 @@ use mathlib.Core.Path.{_≡_, refl, _∙_}
 use mathlib.Core.List.{List, [], _∷_}
 use Prim.Native.Nat.{ℕ, _+_}
 use lib.ListN.{length, getD, set, length-set}
-use Rattle.job.specs.Job.{Job, ruleEnd}
+use Rattle.job.specs.Job.{Job}
 use Rattle.table.specs.Questions.{askedBy}
 use Rattle.table.specs.Layout as W
-use Rattle.turns.specs.Turn.{Turned, reached, completedMark, openClaim, markAll, turn}
+use Rattle.turns.specs.Turn.{Turned, reached, completedMark, openClaim, markAll, turn, skipEnd}
 use Rattle.turns.proofs.Cases.{literal, moved, taken, asked, Case, wakes, sleeps, rests, answers, opens-asked, waits-asked, completes, sticks, passes, skips, opens, takes, waits, turn-case}
 
 pub open-length : (t : List ℕ) (w c : ℕ) → length (openClaim t w c) ≡ length t
@@ -39,7 +39,7 @@ module _ (j : Job) (t : List ℕ) (w : ℕ) where
   case-length r (completes {n = n} a b) = mark-length (completedMark j t) (reached j t n) t
   case-length r (sticks a b c) = refl
   case-length r (passes {c = c} a b f) = moved-length c
-  case-length r (skips {c = c} a b) = length-set t (W.cursorWord c) (ruleEnd c (j .rules) (W.cursor t c))
+  case-length r (skips {c = c} a b) = length-set t (W.cursorWord c) (skipEnd j t c)
   case-length r (opens {c = c} a b f) = open-length (moved t c) w (literal j t c) ∙ moved-length c
   case-length r (takes {c = c} a b m f) = mark-length (λ d. w + 1) (taken j t c) (moved t c) ∙ moved-length c
   case-length r (waits {c = c} a b m f) = length-set (moved t c) (W.awaitedWord j w) (literal j t c + 1) ∙ moved-length c

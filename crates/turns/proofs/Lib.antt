@@ -49,5 +49,6 @@ pub mod Histories
 pub mod Answers
 pub mod OnLists
 pub mod Named
+pub mod Opening
 pub mod Alone
 pub mod Demands

@@ -29,6 +29,7 @@ use Rattle.waiting.specs.Led as L
 use Rattle.turns.specs.Turn.{lits, litAt, failed, runTable}
 use Rattle.turns.specs.Lists.{Call, turnsOf, Complete}
 use Rattle.turns.specs.Promise.{Fresh, from, Leads, Asked, FalseAmong, OthersBehind}
+use Rattle.turns.proofs.Tests.{is-eq}
 use Rattle.turns.proofs.Jobs.{JobOk, lits-length, valid-ok}
 use Rattle.turns.proofs.Places.{place-low}
 use Rattle.turns.proofs.Behind.{Behind, claim-lit, failed-done}
@@ -46,12 +47,12 @@ member (x ∷ l) d zero h = List·Memᴰ·head refl
 member (x ∷ l) d (suc i) h = List·Memᴰ·tail (member l d i (omega arith))
 
 -- the question at a place of the file
-record Found (qs : List Question) (c : ℕ) : Type 0 where
-  question : Question
-  is : question ∈ qs
-  claim : question .claim ≡ c
+pub record Found (qs : List Question) (c : ℕ) : Type 0 where
+  pub question : Question
+  pub is : question ∈ qs
+  pub claim : question .claim ≡ c
 
-found : (qs : List Question) (p : ℕ) → p < length qs → Found qs (claimAsked qs p)
+pub found : (qs : List Question) (p : ℕ) → p < length qs → Found qs (claimAsked qs p)
 unfolding claimAsked
 found [] p h = absurd (omega arith)
 found (q ∷ qs) zero h = record { question = q; is = List·Memᴰ·head refl; claim = refl }
@@ -69,6 +70,12 @@ module _ (j : Job) (v : Valid j) where
   led-asked c (L.led {w = w} {i = i} h l p) =
       let f = found (j .questions) (getD (askedBy j w) i 0) (place-low j w i l) in
       record { question = f .question; is = f .is; leads = subst (λ (x : ℕ). Reach (Leads j) x c) (sym (f .claim)) (by-list p) }
+
+true-false : True ≡ False → ⊥
+true-false e = let z : _≡_ {A = ℕ} 0 1 = cc in absurd (omega arith)
+
+undefined-false : Undefined ≡ False → ⊥
+undefined-false e = let z : _≡_ {A = ℕ} 0 1 = cc in absurd (omega arith)
 
 -- in any table that turns made
 module _ (j : Job) (v : Valid j) (t : List ℕ) (M : Made j t) where
@@ -94,6 +101,22 @@ module _ (j : Job) (v : Valid j) (t : List ℕ) (M : Made j t) where
   failed-false (Negated c) h f =
       let e = eqb→eq (W.mark t c) 256 f in
       by-one (verdictIn j c) (omega (arith, M .verdicts .marks c h (omega arith)))
+
+  -- and a complete literal that is false in the model fails
+  by-false : (u : Verdict) → u ≡ False → byteOf u ≡ 2
+  by-false u e = ap byteOf e
+
+  by-opposite : (u : Verdict) → opposite u ≡ False → byteOf u ≡ 1
+  by-opposite True e = refl
+  by-opposite False e = absurd (true-false e)
+  by-opposite Undefined e = absurd (undefined-false e)
+
+  pub false-failed : (l : Literal) → claimOf l < j .claims → Complete t (claimOf l) → literalVerdict (programOf j) l ≡ False → T (failed t l)
+  unfolding failed
+  false-failed (Plain c) h d e =
+      is-eq (W.mark t c) 257 (omega (arith, by-false (verdictIn j c) e, M .verdicts .marks c h (complete-mark J M c h d)))
+  false-failed (Negated c) h d e =
+      is-eq (W.mark t c) 256 (omega (arith, by-opposite (verdictIn j c) e, M .verdicts .marks c h (complete-mark J M c h d)))
 
   -- literal k of rule r, which stands at p among its head's, and one of the rule before it that fails
   module _ (r : Rule) (p : RuleAt (r .head) (j .rules) r) (before : List Literal) (l : Literal) (rest : List Literal) (e : r .body ≡ before ++ (l ∷ rest)) where

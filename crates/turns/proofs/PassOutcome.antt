@@ -9,12 +9,12 @@ use native.Mathlib.Omega.{arith}
 use native.Mathlib.Decide.{ℕ-discrete}
 use lib.ListN.{length, set, length-set}
 use lib.Dec.{T, T-not}
-use Rattle.job.specs.Job.{Job, ruleEnd}
+use Rattle.job.specs.Job.{Job}
 use Rattle.table.specs.Layout as W
 use Rattle.table.specs.Ranges.{InRange}
 use Rattle.waiting.specs.State.{Own}
 use Rattle.waiting.specs.Steps as S
-use Rattle.turns.specs.Turn.{kindNumber, openClaim, meets}
+use Rattle.turns.specs.Turn.{kindNumber, openClaim, meets, skipEnd}
 use Rattle.turns.specs.declared.Kind.the-variants.{Opened, Waits, Passed}
 use Rattle.turns.proofs.Jobs.{JobOk, lits-length}
 use Rattle.turns.proofs.View.{low-in, nextAt-in, Alikes, view}
@@ -72,9 +72,9 @@ module _ (j : Job) (J : JobOk j) (t : List ℕ) (R : InRange j t) (w : ℕ) (sma
   -- c skips the rest of its rule
   module _ (back : Behind j t c (W.cursor t c)) where
     abbrev e : ℕ
-    e = ruleEnd c (j .rules) (W.cursor t c)
+    e = skipEnd j t c
 
-    end-up : W.cursor (skipped j t c) c ≡ ruleEnd c (j .rules) (W.cursor t c)
+    end-up : W.cursor (skipped j t c) c ≡ skipEnd j t c
     end-up = X.same t (W.cursorWord c) e (omega (arith, R .room, low))
 
     pub skips-outcome : Outcome j t w (record { kind = Passed; table = skipped j t c })

@@ -5,10 +5,10 @@ use Prim.Native.Nat.{ℕ, _+_, _≤_, _<_}
 use native.Mathlib.Omega.{arith}
 use lib.ListN.{getD, set}
 use Rattle.base.proofs.Lists.{In}
-use Rattle.job.specs.Job.{Job, ruleEnd}
+use Rattle.job.specs.Job.{Job}
 use Rattle.table.specs.Layout as W
 use Rattle.table.specs.Ranges.{InRange}
-use Rattle.turns.specs.Turn.{Turned, reached, completedMark, openClaim, markAll, turn}
+use Rattle.turns.specs.Turn.{Turned, reached, completedMark, openClaim, markAll, turn, skipEnd}
 use Rattle.turns.proofs.Places.{place-low}
 use Rattle.turns.proofs.Jobs.{JobOk}
 use Rattle.turns.proofs.Edges.{in-low}
@@ -42,7 +42,7 @@ module _ (j : Job) (J : JobOk j) (t : List ℕ) (R : InRange j t) (w : ℕ) (sma
     case-past r (completes {n = n} a b) = marks-past (completedMark j t) (reached j t n) t (λ c k. in-low j J t c (a .low) k)
     case-past r (sticks a b c) = refl
     case-past r (passes {c = c} a b f) = moved-past c (c-low J R small a)
-    case-past r (skips {c = c} a b) = let h = c-low J R small a in X.other t (W.cursorWord c) (ruleEnd c (j .rules) (W.cursor t c)) i (λ e. omega arith)
+    case-past r (skips {c = c} a b) = let h = c-low J R small a in X.other t (W.cursorWord c) (skipEnd j t c) i (λ e. omega arith)
     case-past r (opens {c = c} a b f) = open-past (moved t c) (literal j t c) (b-low J R small a) ∙ moved-past c (c-low J R small a)
     case-past r (takes {c = c} a b m f) =
         marks-past (λ d. w + 1) (taken j t c) (moved t c) (λ d k. taken-in j J t R w small a d k .low) ∙ moved-past c (c-low J R small a)

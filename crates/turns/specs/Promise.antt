@@ -5,6 +5,7 @@
 --   Asked j c       a question names c or leads to it through all literals of rules
 --   FalseAmong      one of some literals is complete and false
 --   OthersBehind    the literals of rules of complete claims whose claims aren't complete stand behind a complete false one
+--   OpenedFor       what a claim is opened for
 --   alone j         the same job with one worker, worker 0, in every question
 --   turns n         n single turns of worker 0
 --   bound j         2L + A + 3Q
@@ -64,6 +65,13 @@ OthersBehind j t =
     (r : Rule) → r ∈ j .rules → Complete t (r .head) → (before : List Literal) (l : Literal) (rest : List Literal) → r .body ≡ before ++ (l ∷ rest)
     → (Complete t (claimOf l) → ⊥) → FalseAmong j t before
 
+-- what claim b is opened for: a question, or a literal that stands behind no complete false one
+pub data OpenedFor (j : Job) (t : List ℕ) (b : ℕ) : Type 0 where
+  question : (q : Question) → q ∈ j .questions → q .claim ≡ b → OpenedFor j t b
+  literal :
+      (r : Rule) → r ∈ j .rules → (before : List Literal) (l : Literal) (rest : List Literal) → r .body ≡ before ++ (l ∷ rest) → claimOf l ≡ b
+      → (FalseAmong j t before → ⊥) → OpenedFor j t b
+
 -- "One worker asking everything: the same job with T 1 and worker 0 in every question"
 unfoldable pub alone : Job → Job
 alone j =
@@ -91,6 +99,10 @@ pub record Promise (s : List ℕ) : Type 0 where
       (t : List ℕ) → Fresh s t → (xs : List Call) (c : ℕ) → c < jobOf s .claims → Complete (from s t xs) c → Asked (jobOf s) c
   -- "and that each literal of their rules whose claim isn't complete stands behind a complete false one."
   pub literals : (t : List ℕ) → Fresh s t → (xs : List Call) → OthersBehind (jobOf s) (from s t xs)
+  -- "Most rules fail at their first literal, and we open claims for nothing": no longer, in any turn after any list
+  pub opened :
+      (t : List ℕ) → Fresh s t → (xs : List Call) (w b : ℕ) → w < jobOf s .workers → b < jobOf s .claims → mark (from s t xs) b ≡ 0
+      → (mark (turn (jobOf s) (from s t xs) w .table) b ≡ 0 → ⊥) → OpenedFor (jobOf s) (from s t xs) b
   -- every further call finds the table as rows 9 and 10 want it
   pub accepted : (t : List ℕ) → Fresh s t → (xs : List Call) → Accepted ≡ checkTable (jobOf s) (from s t xs)
   -- "each answered question has the answer that one worker asking everything in sequence gets", by the question's position in the file

@@ -4,7 +4,9 @@
 --   lits j c          the claims of c's literals, over its rules in file order
 --   litAt j c k       c's literal k, from 0
 --   falseMark l       the mark of its claim that makes literal l false; failed t l   literal l is complete and false
---   clear j t c k     no literal before c's literal k, of its rule, is complete and false
+--   clear j t c k     no literal before c's literal k, of its rule, is complete and false (such a one makes the rule's body false)
+--   skipEnd j t c     where the rule of c's next literal ends among c's literals
+--   leading j t c k   c has passed its literal k, and it stands behind no false one
 --   leads j t c       what c leads to; reached j t c   all that is reached from c, in rising order
 --   newest t cs       the newest of some claims + 1, or 0 where there is none
 --   allPassed j t c   c has passed all its literals
@@ -64,11 +66,13 @@ failed t l = eqb (mark t (claimOf l)) (falseMark l)
 unfoldable pub clear : Job → List ℕ → ℕ → ℕ → Bool
 clear j t c k = every (λ i. not (failed t (litAt j c i) && ltb k (ruleEnd c (j .rules) i))) (upto k)
 
--- "A claim leads to the claim of each literal it has passed that isn't complete;"
 -- (02, order 5) "A literal behind a complete false one in its rule no longer leads anywhere."
+abbrev pub leading : Job → List ℕ → ℕ → ℕ → Bool
+leading j t c k = ltb k (cursor t c) && clear j t c k
+
+-- "A claim leads to the claim of each literal it has passed that isn't complete;"
 unfoldable pub leads : Job → List ℕ → ℕ → List ℕ
-leads j t c =
-    keep (λ d. not (complete t d)) (map (λ k. getD (lits j c) k 0) (keep (λ k. ltb k (cursor t c) && clear j t c k) (upto (length (lits j c)))))
+leads j t c = keep (λ d. not (complete t d)) (map (λ k. getD (lits j c) k 0) (keep (leading j t c) (upto (length (lits j c)))))
 
 -- "'reached' follows this any number of times, the start included."
 unfoldable pub anyLeads : Job → List ℕ → List ℕ → ℕ → Bool
@@ -133,6 +137,10 @@ askTurn j t w =
     (pick (fresh t c) (record { kind = Opened; table = openClaim t w c })
     (record { kind = Waits; table = set t (awaitedWord j w) (c + 1) })))
 
+-- (02, order 5) "the rule's end"
+abbrev pub skipEnd : Job → List ℕ → ℕ → ℕ
+skipEnd j t c = ruleEnd c (j .rules) (cursor t c)
+
 -- "C passes that literal, of claim B. B complete or w's: passed. Fresh: open to w, opened. Another's: .. If that never meets w,
 -- w awaits B, waits. If it does, every open claim reached from C becomes w's, took"
 -- (02, order 5) "Before C meets a literal, if an earlier literal of that rule is complete and false, the turn moves the cursor to the
@@ -149,7 +157,7 @@ passTurn j t w c =
     (pick (meets (j .workers) j t w (mark t b - 1))
     (record { kind = Took; table = markAll (λ d. w + 1) (keep (λ d. not (fresh t d)) (reached j t′ c)) t′ })
     (record { kind = Waits; table = set t′ (awaitedWord j w) (b + 1) })))))
-    (record { kind = Passed; table = set t (cursorWord c) (ruleEnd c (j .rules) (cursor t c)) })
+    (record { kind = Passed; table = set t (cursorWord c) (skipEnd j t c) })
 
 -- "If all reached from N are w's and have passed all their literals, all of them become complete: completed."
 -- "C is the newest claim of w reached from N with a literal left; none, idle."
