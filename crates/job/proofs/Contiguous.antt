@@ -17,11 +17,10 @@ use Rattle.base.proofs.Bools.{and-both, and-rest}
 use Rattle.base.proofs.Compare.{under-yes, under-no, under-lt, under-le}
 use Rattle.base.proofs.Span.{length-span, span-add, span-snoc}
 use Rattle.job.specs.Job.{Rule, literalsOf}
-use Rattle.job.specs.Format.{rules, literals, headAt, headBefore, bodyStart, bodyLengthAt, literalAt, ruleAt, jobOf}
+use Rattle.job.specs.Format.{rules, headAt, headBefore, bodyStart, bodyLengthAt, literalAt, ruleAt, jobOf}
 use Rattle.job.specs.Claims.{literalsBelow, claimStart, ClaimLiterals}
 use Rattle.job.specs.Accepted.{WellFormed}
 use Rattle.job.proofs.Parts.{rises}
-use Rattle.job.specs.declared.Literal.{Literal}
 
 pub literalsOf-append : (c : ℕ) (x y : List Rule) → literalsOf c (x ++ y) ≡ literalsOf c x ++ literalsOf c y
 unfolding literalsOf

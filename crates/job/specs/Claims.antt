@@ -3,7 +3,7 @@
 --   claimStart s c        where c's literals start among the job's, and those of c - 1 end
 --   Starts s index        entry c of an index is where c's literals start; the one past the last claim is where they end
 --   boundAt index i       the entry of the job's literal i, 4097 + i, says that a rule ends before it
---   Bounds s index        of the first m rules these are right, and all other entries say that none does
+--   Bounds s index m      it does where one of the first m rules ends, and nowhere else
 --   Index s index         the index: both, of all rules
 --   endIn index i         the first place past literal i that a rule ends before, by the index: where the literal's rule ends
 --   ClaimLiterals s c     the literals of c, over its rules in file order, are the part from claimStart s c to claimStart s (c + 1)

@@ -7,7 +7,7 @@ ghost use lib.ListN.{length, getD, replicate};
 ghost use Rattle.base.specs.Compare.{under};
 ghost use Rattle.job.specs.Bytes.{Number};
 ghost use Rattle.job.specs.Accepted.{WellFormed};
-ghost use Rattle.job.specs.Format.{rules as rulesOf, ruleByte, headAt, literalByte, literalAt};
+ghost use Rattle.job.specs.Format.{ruleByte, headAt, literalByte, literalAt};
 ghost use Rattle.job.specs.Claims.{Index, boundAt, endIn, moved, pastRule};
 use crate::ClaimIndex;
 use crate::Cursor;

@@ -18,7 +18,6 @@ use lib.Dec.{T, leb, eqb}
 use lib.ListN.{length, getD, set, length-set}
 use lib.Seq.{getD-set-same, getD-set-other}
 use Rattle.base.specs.Choose.{pick}
-use Rattle.base.specs.Span.{span}
 use Rattle.base.specs.Lists.{keep}
 use Rattle.base.proofs.Choose.{pick-true, pick-false}
 use Rattle.base.proofs.Lists.{keep-same}

@@ -23,7 +23,7 @@ use Rattle.base.proofs.Paths.{trans, one, stays}
 use Rattle.base.proofs.Sets.{count-le, count-mono, count-less}
 use Rattle.base.proofs.Span.{map-span}
 use Rattle.job.specs.Job.{claimOf}
-use Rattle.job.specs.Format.{claims, rules, literals, literalAt, jobOf}
+use Rattle.job.specs.Format.{claims, rules, literalAt, jobOf}
 use Rattle.job.specs.Accepted.{WellFormed}
 use Rattle.job.specs.Claims.{claimStart, endIn}
 use Rattle.job.specs.declared.Cursor.{Cursor}

@@ -11,8 +11,7 @@ use native.Mathlib.Decide.{ℕ-discrete}
 use lib.Dec.{T}
 use lib.ListN.{length, getD, length-append, List·getD-append}
 use lib.Seq.{getD-append-seam}
-use Rattle.base.proofs.Lists.{In}
-use Rattle.job.specs.Job.{Job, Rule, claimOf, literalsOf, ruleEnd}
+use Rattle.job.specs.Job.{Job, claimOf, literalsOf}
 use Rattle.job.specs.Format.{jobOf}
 use Rattle.job.specs.Encoding.{_∈_, Valid}
 use Rattle.job.specs.Checks.{checkJob}
@@ -32,7 +31,7 @@ use Rattle.turns.proofs.Edges.{in-low}
 use Rattle.turns.proofs.Cases as K
 use Rattle.turns.proofs.Cases.{AtQuestion, AtLeft, moved, taken, asked, Clear, Case, wakes, sleeps, rests, answers, opens-asked, waits-asked, completes, sticks, passes, skips, opens, takes, waits, turn-case}
 use Rattle.turns.proofs.Words as X
-use Rattle.turns.proofs.Range.{c-low, c-room}
+use Rattle.turns.proofs.Range.{c-room}
 use Rattle.turns.proofs.Takeover.{taken-in}
 use Rattle.turns.proofs.Runs.{Made}
 use Rattle.turns.proofs.Named.{found, false-failed}

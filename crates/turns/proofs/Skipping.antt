@@ -5,12 +5,12 @@
 --   pass-clear       none is, where no end was found
 use Prim.Native.Nat.{ℕ, _+_, _-_, _≤_, _<_}
 use mathlib.Core.Path.{_≡_, sym, _∙_, ap, subst}
-use mathlib.Core.Bool.{true, false, not}
+use mathlib.Core.Bool.{true, false}
 use mathlib.Core.List.{List}
 use mathlib.Core.Logic.{by-cases}
 use native.Mathlib.Omega.{arith}
-use native.Mathlib.Decide.{ℕ-discrete, decLt}
-use lib.Dec.{T, T-not}
+use native.Mathlib.Decide.{decLt}
+use lib.Dec.{T}
 use lib.ListN.{length, getD, set}
 use Rattle.base.specs.Choose.{pick}
 use Rattle.base.proofs.Bools.{is-true}

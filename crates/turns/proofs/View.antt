@@ -15,11 +15,10 @@ use lib.Dec.{ltb, ltb→lt, lt→ltb}
 use Rattle.base.specs.Choose.{pick}
 use Rattle.base.specs.Graph.{Plus, old, new}
 use Rattle.base.proofs.Choose.{pick-yes, pick-no}
-use Rattle.job.specs.Job.{Job, claimOf}
+use Rattle.job.specs.Job.{Job}
 use Rattle.table.specs.Questions.{askedBy, questionClaim}
 use Rattle.table.specs.Layout as W
 use Rattle.waiting.specs.State.{State}
-use Rattle.waiting.specs.State.{Done}
 use Rattle.waiting.specs.Steps.{Stays, Left, ago, now, Passes, Skips, Faded, leads, behind, Fades, Claims, Opens, Awaits, Workers}
 use Rattle.turns.specs.Turn.{lits, litAt}
 use Rattle.turns.proofs.Jobs.{JobOk}

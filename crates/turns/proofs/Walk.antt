@@ -13,7 +13,6 @@ use native.Mathlib.Omega.{arith}
 use native.Mathlib.Decide.{ℕ-discrete, decLt}
 use lib.Dec.{T, eqb, leb, leb→le, le→leb}
 use lib.ListN.{length, getD}
-use Rattle.base.specs.Choose.{pick}
 use Rattle.base.proofs.Bools.{is, is-not}
 use Rattle.base.proofs.Choose.{t?, pick-elim, pick-yes, pick-no}
 use Rattle.base.proofs.Lists.{In, in-head, in-tail, InCons, first, later, in-cases, in-nil}

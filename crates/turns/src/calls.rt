@@ -1,7 +1,6 @@
 // The calls that users make: start, turn, run, read. Each checks the rows of the check table in its order, refuses with number
 // and place and no word altered, and else gives what specs/Calls says.
 ghost use mathlib.Core.Path.{_≡_};
-ghost use Prim.Native.Nat.{ℕ};
 ghost use Rattle.job.specs.Rows.{_⨾_};
 ghost use Rattle.job.specs.Format.{jobOf};
 ghost use Rattle.job.specs.Checks.{checkJob};

@@ -5,7 +5,7 @@ use native.Mathlib.Omega.{arith}
 use Rattle.base.specs.Graph.{here}
 use Rattle.waiting.specs.State.{State, Own, Done, Engaged, awaiting, owning, Inv}
 use Rattle.waiting.specs.Bound.{Phase, over, busy, due, ahead, Late, late, early, Worth, Value, whole, part, Total}
-use Rattle.waiting.specs.Steps.{Same, But, Claims, Stays, Awaits, Workers, AtQuestion, AtLiteral, Woke, Answered, OpenedAsked, WaitsAsked, WaitsOn, Completed, Step, woke, answered, opened-asked, waits-asked, completes, passed, skipped, opened, waits, took}
+use Rattle.waiting.specs.Steps.{But, Claims, Stays, Awaits, Workers, AtQuestion, AtLiteral, Woke, Answered, OpenedAsked, WaitsAsked, WaitsOn, Completed, Step, woke, answered, opened-asked, waits-asked, completes, passed, skipped, opened, waits, took}
 use Rattle.waiting.proofs.Basics.{has-question}
 use Rattle.waiting.proofs.Marks.{claims-done, claims-own, claims-owned, opens-done, opens-own, completed-done}
 use Rattle.waiting.proofs.Links.{Links, links-stay, links-pass}

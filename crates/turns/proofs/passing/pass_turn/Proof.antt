@@ -2,7 +2,6 @@
 use native.Mathlib.Omega.{arith}
 use borrow.Author.Needs.{needs}
 use Rattle.turns.proofs.Following.{room}
-use Rattle.turns.proofs.Cursors.{next-few}
 use Rattle.turns.proofs.Skipping.{skip-most, pass-skipped, pass-clear, lits-few}
 use Rattle.turns.proofs.passing.pass_turn.Statement.{statement}
 use Rattle.turns.proofs.passing.pass_turn.Tie as tie
