@@ -3,6 +3,7 @@ pub mod Rows
 pub mod Parts
 pub mod Accepted
 pub mod Contiguous
+pub mod FieldBits
 pub mod RuleEnds
 pub mod Halves
 pub mod Encoded

@@ -4,17 +4,18 @@
 --   seek-.., end-here-in, end-next-in   the end of a literal's rule by the index, literal by literal
 --   end-in                         it is the rule's
 --   bounds-start, -more, -kept     the index as it is filled
-use Prim.Native.Nat.{ℕ, zero, suc, _+_, _-_, _≤_, _<_}
+use Prim.Native.Nat.{ℕ, zero, suc, _+_, _-_, _/_, _%_, _^_, _≤_, _<_}
 use mathlib.Core.Path.{_≡_, refl, sym, _∙_, ap, subst}
 use mathlib.Core.Logic.{by-cases, ⊎-elim}
 use mathlib.Core.Bool.{Bool, true, false, not, cond}
 use mathlib.Core.List.{List, [], _∷_, _++_, List·Memᴰ·head, List·Memᴰ·tail, List·Memᴰ·not-nil, List·Memᴰ·cases-cons}
 use native.Mathlib.Omega.{arith}
-use native.Mathlib.Nat.{zero-add}
+use native.Mathlib.Nat.{zero-add, zero-div}
 use native.Mathlib.Decide.{ℕ-discrete, decLt}
 use borrow.Author.Tests.{eq-eqb, ne-eqb}
 use lib.ListN.{length, getD, set, replicate, length-append, List·getD-append, getD-replicate}
 use lib.Seq.{getD-set-same, getD-set-other, getD-append-add}
+use lib.Bits.{bitOr}
 use lib.Dec.{eqb, ltb, ltb→lt, lt→ltb}
 use Rattle.base.specs.Choose.{pick}
 use Rattle.base.specs.Span.{span}
@@ -27,6 +28,7 @@ use Rattle.job.specs.Accepted.{WellFormed}
 use Rattle.job.specs.Encoding.{_∈_}
 use Rattle.job.specs.declared.Literal.{Literal}
 use Rattle.job.specs.declared.Literal.the-variants.{Plain}
+use Rattle.job.proofs.FieldBits.{bit-set, bit-kept}
 use Rattle.job.proofs.Parts.{rises, bodyStart-next, body-within}
 use Rattle.job.proofs.Contiguous.{three, below-all, takes, skips, below-rises, range}
 
@@ -311,15 +313,17 @@ end-in s index w x c k l =
     in-rule s index w (x .bounds) (p .rule) (p .there) (claimStart s c + k) (p .from) (p .to) ∙ sym (p .end)
 
 -- an index as it is filled: at first no rule ends anywhere, then one more does, and what is written of claims changes none
-bound-zero : (i : ℕ) → i ≤ mostLiterals → boundAt (replicate 20482 0) i ≡ false
-bound-zero i l = ap (λ (x : ℕ). not (eqb x 0)) (getD-replicate 20482 (4097 + i) 0 0 (omega arith))
+bound-zero : (i : ℕ) → i ≤ mostLiterals → boundAt (replicate 5122 0) i ≡ false
+bound-zero i l =
+    ap (λ (x : ℕ). not (eqb (x / 2 ^ (i % 16) % 2) 0)) (getD-replicate 5122 (4097 + i / 16) 0 0 (omega arith))
+    ∙ ap (λ (x : ℕ). not (eqb (x % 2) 0)) (zero-div (2 ^ (i % 16)))
 
-pub bounds-start : (s : List ℕ) {index : List ℕ} → index ≡ replicate 20482 0 → Bounds s index 0
+pub bounds-start : (s : List ℕ) {index : List ℕ} → index ≡ replicate 5122 0 → Bounds s index 0
 bounds-start s e = record { ends = λ r l. absurd (omega arith); only = λ i l f. ap (λ (x : List ℕ). boundAt x i) e ∙ bound-zero i l }
 
-module _ {s index : List ℕ} {m : ℕ} (b : Bounds s index m) (long : length index ≡ 20482) where
-  bound-other : (i d v : ℕ) → (4097 + i ≡ d → ⊥) → boundAt (set index d v) i ≡ boundAt index i
-  bound-other i d v n = ap (λ (x : ℕ). not (eqb x 0)) (getD-set-other index d (4097 + i) v 0 n)
+module _ {s index : List ℕ} {m : ℕ} (b : Bounds s index m) (long : length index ≡ 5122) where
+  bound-other : (i d v : ℕ) → (4097 + i / 16 ≡ d → ⊥) → boundAt (set index d v) i ≡ boundAt index i
+  bound-other i d v n = ap (λ (x : ℕ). not (eqb (x / 2 ^ (i % 16) % 2) 0)) (getD-set-other index d (4097 + i / 16) v 0 n)
 
   pub bounds-kept : (d v : ℕ) → d < 4097 → Bounds s (set index d v) m
   bounds-kept d v l =
@@ -328,17 +332,36 @@ module _ {s index : List ℕ} {m : ℕ} (b : Bounds s index m) (long : length in
         only = λ i h f. bound-other i d v (λ e. omega arith) ∙ b .only i h f;
       }
 
-  pub bounds-more : (p : ℕ) → p ≡ bodyStart s (m + 1) → p ≤ mostLiterals → Bounds s (set index (4097 + p) 1) (m + 1)
-  bounds-more p e low =
-      let there : boundAt (set index (4097 + p) 1) p ≡ true = ap (λ (x : ℕ). not (eqb x 0)) (getD-set-same index (4097 + p) 1 0 (omega arith)) in
-      let new : (i : ℕ) → i ≡ p → boundAt (set index (4097 + p) 1) i ≡ true = λ i z. ap (boundAt (set index (4097 + p) 1)) z ∙ there in
-      record {
-        ends = λ r h.
-            by-cases (ℕ-discrete (bodyStart s (r + 1)) p) (new (bodyStart s (r + 1)))
-            (λ n.
-            bound-other (bodyStart s (r + 1)) (4097 + p) 1 (λ z. n (omega arith))
-            ∙ b .ends r (by-cases (ℕ-discrete r m) (λ z. absurd (n (ap (λ (x : ℕ). bodyStart s (x + 1)) z ∙ sym e))) (λ z. omega arith)));
-        only = λ i h f.
-            bound-other i (4097 + p) 1 (λ z. f m (omega arith) (omega arith))
-            ∙ b .only i h (λ r g. f r (omega arith));
-      }
+  -- one more rule ends, at p
+  module _ (p : ℕ) (low : p ≤ mostLiterals) {v : ℕ} (put : v ≡ bitOr (getD index (4097 + p / 16) 0) (2 ^ (p % 16))) where
+    abbrev after : List ℕ
+    after = set index (4097 + p / 16) v
+
+    there : getD after (4097 + p / 16) 0 ≡ bitOr (getD index (4097 + p / 16) 0) (2 ^ (p % 16))
+    there = getD-set-same index (4097 + p / 16) v 0 (omega arith) ∙ put
+
+    now-bound : boundAt after p ≡ true
+    now-bound =
+        ap (λ (x : ℕ). not (eqb (x / 2 ^ (p % 16) % 2) 0)) there
+        ∙ ap (λ (x : ℕ). not (eqb x 0)) (bit-set (getD index (4097 + p / 16) 0) (p % 16))
+
+    still-bound : (i : ℕ) → (i ≡ p → ⊥) → boundAt after i ≡ boundAt index i
+    still-bound i n =
+        by-cases (ℕ-discrete (i / 16) (p / 16))
+        (λ e.
+        let y : getD after (4097 + i / 16) 0 ≡ bitOr (getD index (4097 + i / 16) 0) (2 ^ (p % 16)) =
+        ap (λ (x : ℕ). getD after (4097 + x) 0) e ∙ (there ∙ ap (λ (x : ℕ). bitOr (getD index (4097 + x) 0) (2 ^ (p % 16))) (sym e)) in
+        ap (λ (x : ℕ). not (eqb (x / 2 ^ (i % 16) % 2) 0)) y
+        ∙ ap (λ (x : ℕ). not (eqb x 0)) (bit-kept (getD index (4097 + i / 16) 0) (p % 16) (i % 16) (λ z. n (omega arith))))
+        (λ e. bound-other i (4097 + p / 16) v (λ z. e (omega arith)))
+
+    pub bounds-more : p ≡ bodyStart s (m + 1) → Bounds s after (m + 1)
+    bounds-more e =
+        record {
+          ends = λ r h.
+              by-cases (ℕ-discrete (bodyStart s (r + 1)) p) (λ z. ap (boundAt after) z ∙ now-bound)
+              (λ n.
+              still-bound (bodyStart s (r + 1)) n
+              ∙ b .ends r (by-cases (ℕ-discrete r m) (λ z. absurd (n (ap (λ (x : ℕ). bodyStart s (x + 1)) z ∙ sym e))) (λ z. omega arith)));
+          only = λ i h f. still-bound i (λ z. f m (omega arith) (omega arith)) ∙ b .only i h (λ r g. f r (omega arith));
+        }

@@ -2,14 +2,14 @@
 --   literalsBelow s c m   the literals of those of m rules whose head is below c
 --   claimStart s c        where c's literals start among the job's, and those of c - 1 end
 --   Starts s index        entry c of an index is where c's literals start; the one past the last claim is where they end
---   boundAt index i       the entry of the job's literal i, 4097 + i, says that a rule ends before it
+--   boundAt index i       the bit of the job's literal i, bit i % 16 of entry 4097 + i / 16, says that a rule ends before it
 --   Bounds s index m      it does where one of the first m rules ends, and nowhere else
 --   Index s index         the index: both, of all rules
 --   endIn index i         the first place past literal i that a rule ends before, by the index: where the literal's rule ends
 --   ClaimLiterals s c     the literals of c, over its rules in file order, are the part from claimStart s c to claimStart s (c + 1)
 --   cursorAt s c n        the cursor over claim c's literals that has passed n of them
 --   moved c               the cursor past the current literal; pastRule index c   the one past that literal's rule
-use Prim.Native.Nat.{ℕ, zero, suc, _+_, _-_, _≤_, _<_}
+use Prim.Native.Nat.{ℕ, zero, suc, _+_, _-_, _/_, _%_, _^_, _≤_, _<_}
 use mathlib.Core.List.{List}
 use mathlib.Core.Path.{_≡_}
 use mathlib.Core.Bool.{Bool, true, false, not, cond}
@@ -33,7 +33,7 @@ abbrev pub Starts : List ℕ → List ℕ → Type 0
 Starts s index = (c : ℕ) → c ≤ claims s → getD index c 0 ≡ claimStart s c
 
 abbrev pub boundAt : List ℕ → ℕ → Bool
-boundAt index i = not (eqb (getD index (4097 + i) 0) 0)
+boundAt index i = not (eqb (getD index (4097 + i / 16) 0 / 2 ^ (i % 16) % 2) 0)
 
 pub record Bounds (s index : List ℕ) (m : ℕ) : Type 0 where
   pub ends : (r : ℕ) → r < m → boundAt index (bodyStart s (r + 1)) ≡ true

@@ -1,7 +1,8 @@
 // The index of claims, and the cursor over one claim's literals. The contracts cite specs/Claims.
 ghost use mathlib.Core.Path.{_≡_};
 ghost use mathlib.Core.Bool.{_&&_};
-ghost use Prim.Native.Nat.{_+_, _<_, _≤_};
+ghost use Prim.Native.Nat.{_+_, _^_, _<_, _≤_};
+ghost use lib.Bits.{bitOr};
 ghost use lib.Dec.{leb};
 ghost use lib.ListN.{length, getD, replicate};
 ghost use Rattle.base.specs.Compare.{under};
@@ -14,7 +15,7 @@ use crate::Cursor;
 use crate::Literal;
 use crate::format;
 
-// The index has a field a claim first, and then one a literal.
+// The index has a field a claim first, and then a bit a literal, 16 to a field.
 const BOUNDS_AT: usize = 4097;
 
 // Whether there is a rule i and its head is below the claim.
@@ -30,9 +31,17 @@ fn head_below(job: &[u8], rules: usize, i: usize, claim: usize) -> bool
 
 // An index to be filled.
 fn no_index() -> ClaimIndex
-    ensures { λ r. ⌜ r ≡ replicate 20482 0 ⌝ }
+    ensures { λ r. ⌜ r ≡ replicate 5122 0 ⌝ }
 {
-    [0u16; 20482]
+    [0u16; 5122]
+}
+
+// A field with one more bit set.
+fn with_bit(bits: u16, i: usize) -> u16
+    requires { ⌜ i < 16 ⌝ }
+    ensures { λ r. ⌜ r ≡ bitOr bits (2 ^ i) ⌝ }
+{
+    bits | (1u16 << i)
 }
 
 // The index of claims: where each claim's literals start among the job's, past the last claim where they end, and before which literals
@@ -50,7 +59,8 @@ pub fn index_claims(job: &[u8]) -> ClaimIndex
     while claim <= claims {
         if head_below(job, rules, i, claim) {
             passed += format::body_length_at(job, i);
-            index[BOUNDS_AT + passed] = 1;
+            let field = BOUNDS_AT + passed / 16;
+            index[field] = with_bit(index[field], passed % 16);
             i += 1;
         } else {
             index[claim] = passed as u16;
@@ -71,7 +81,7 @@ pub fn bounded(index: &ClaimIndex, at: usize) -> bool
     requires { ⌜ at ≤ 16384 ⌝ }
     ensures { λ r. ⌜ r ≡ boundAt (now (index .entry)) at ⌝ }
 {
-    index[BOUNDS_AT + at] != 0
+    (index[BOUNDS_AT + at / 16] >> (at % 16)) % 2 != 0
 }
 
 // Where the rule of a literal ends.

@@ -29,5 +29,5 @@ pub struct Cursor {
     pub end: usize,
 }
 
-// The index of a job's claims and rules (claims.rt): a field for each claim and one more, then one for each literal and one more.
-pub type ClaimIndex = [u16; 20482];
+// The index of a job's claims and rules (claims.rt): a field for each claim and one more, then a bit for each literal and one more.
+pub type ClaimIndex = [u16; 5122];

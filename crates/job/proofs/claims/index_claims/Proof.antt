@@ -16,7 +16,7 @@ use Rattle.job.proofs.claims.index_claims.Statement.{statement}
 use Rattle.job.proofs.claims.index_claims.Tie as tie
 
 abbrev Inv-loop : tie.InvT-loop
-Inv-loop job claims′ rules′ index₀ i₀ claim₀ passed₀ index i claim passed = (length index ≡ 20482) × (i ≤ rules job) × (claim ≤ claims job + 1) × (passed ≡ bodyStart job i) × (passed ≤ literals job) × ((j : ℕ) → j < i → headAt job j < claim) × ((d : ℕ) → d < claim → getD index d 0 ≡ claimStart job d) × Bounds job index i × (claims job < claim → i ≡ rules job)
+Inv-loop job claims′ rules′ index₀ i₀ claim₀ passed₀ index i claim passed = (length index ≡ 5122) × (i ≤ rules job) × (claim ≤ claims job + 1) × (passed ≡ bodyStart job i) × (passed ≤ literals job) × ((j : ℕ) → j < i → headAt job j < claim) × ((d : ℕ) → d < claim → getD index d 0 ≡ claimStart job d) × Bounds job index i × (claims job < claim → i ≡ rules job)
 
 abbrev μ-loop : tie.MeasureT-loop
 μ-loop job claims′ rules′ index₀ i₀ claim₀ passed₀ index i claim passed = (rules job - i) + (claims job + 1 - claim)
@@ -33,7 +33,7 @@ no-index-requires c κs = omega arith
 loop-holds : tie.Need-loop-holds Inv-loop μ-loop
 unfolding bodyStart
 loop-holds c =
-    (ap length (c .no-index .ensures) ∙ length-replicate {A = ℕ} 20482 0, omega arith, omega arith, refl, omega arith, below-none _, below-none _, bounds-start _ (c .no-index .ensures), λ h. absurd (omega arith))
+    (ap length (c .no-index .ensures) ∙ length-replicate {A = ℕ} 5122 0, omega arith, omega arith, refl, omega arith, below-none _, below-none _, bounds-start _ (c .no-index .ensures), λ h. absurd (omega arith))
 
 head-below-requires : tie.Need-head-below-requires Inv-loop μ-loop
 head-below-requires c κs = omega arith
@@ -55,38 +55,47 @@ within c =
     let l = c .before .before .before .before .loop in
     omega (arith, l .inv .3, c .body-length-at .ensures .value, body-within (s .args .job .now) (l .i) (rules (s .args .job .now)) (there (c .before)), s .pre .bodies, s .pre .sized .literalsMost)
 
-add-index : tie.Need-add-index Inv-loop μ-loop
-add-index c = omega (arith, within c)
+add-field : tie.Need-add-field Inv-loop μ-loop
+add-field c = omega (arith, within c)
+
+mul-with-bit : tie.Need-mul-with-bit Inv-loop μ-loop
+mul-with-bit c = omega (arith, within c)
+
+array-read-with-bit : tie.Need-array-read-with-bit Inv-loop μ-loop
+array-read-with-bit c = omega (arith, within c)
+
+with-bit-requires : tie.Need-with-bit-requires Inv-loop μ-loop
+with-bit-requires c κs = omega arith
 
 mul-index : tie.Need-mul-index Inv-loop μ-loop
-mul-index c = omega (arith, within c)
+mul-index c = omega (arith, within (c .before))
 
 array-write-index : tie.Need-array-write-index Inv-loop μ-loop
-array-write-index c = omega (arith, within c)
+array-write-index c = omega (arith, within (c .before))
 
 add-i : tie.Need-add-i Inv-loop μ-loop
 add-i c = omega arith
 
 loop-less : tie.Need-loop-less Inv-loop μ-loop
-loop-less c = omega (arith, there (c .before))
+loop-less c = omega (arith, there (c .before .before))
 
 loop-again : tie.Need-loop-again Inv-loop μ-loop
 loop-again c =
-    let c₁ = c .before .before .before .before in
+    let c₁ = c .before .before .before .before .before in
     let c₂ = c₁ .before .before in
     let c₃ = c₂ .before .before .before in
     let s = c₃ .args .job .now in
     let l = c₁ .loop in
-    let h = there (c .before) in
+    let h = there (c .before .before) in
     let next = bodyStart-next s (l .i) in (
       simp length-set (l .inv .0),
       omega arith,
       l .inv .2,
       omega arith,
       omega (arith, body-within s (l .i) (rules s) h, c₃ .pre .bodies),
-      below-more _ _ (l .inv .5) (rule-below s (l .claim) (l .i) (c₂ .rule-count .ensures .value) (c .before .before .head-below .ensures) (c .before .if1 .taken)),
-      λ d b. getD-set-other (l .index) _ d 1 0 (λ e. omega (arith, l .inv .2, c₃ .pre .sized .claimsMost)) ∙ l .inv .6 d b,
-      bounds-more (l .inv .7) (l .inv .0) _ (omega arith) (within c),
+      below-more _ _ (l .inv .5) (rule-below s (l .claim) (l .i) (c₂ .rule-count .ensures .value) (c .before .before .before .head-below .ensures) (c .before .before .if1 .taken)),
+      λ d b. getD-set-other (l .index) _ d _ 0 (λ e. omega (arith, l .inv .2, c₃ .pre .sized .claimsMost)) ∙ l .inv .6 d b,
+      bounds-more (l .inv .7) (l .inv .0) _ (within (c .before)) (c .with-bit .ensures) (omega arith),
       λ b. absurd (omega (arith, l .inv .8 b)),
     )
 
@@ -142,7 +151,10 @@ index-claims-spec =
     head-below-requires
     body-length-at-requires
     add-passed
-    add-index
+    add-field
+    mul-with-bit
+    array-read-with-bit
+    with-bit-requires
     mul-index
     array-write-index
     add-i
