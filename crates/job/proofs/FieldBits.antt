@@ -1,12 +1,12 @@
 -- Bit j of a number is x / 2 ^ j % 2. One bit is set by `or` with its power of two. Assumes nothing.
 --   bit-set, bit-kept   the bit itself, and all others
-use Prim.Native.Nat.{ℕ, suc, _+_, _-_, _*_, _/_, _%_, _^_, _<_}
-use mathlib.Core.Path.{_≡_, refl, sym, _∙_, ap, ap₂}
+use Prim.Native.Nat.{ℕ, suc, _+_, _-_, _/_, _%_, _^_, _<_}
+use mathlib.Core.Path.{_≡_, sym, _∙_, ap}
 use mathlib.Core.Logic.{by-cases}
 use native.Mathlib.Omega.{arith}
 use native.Mathlib.Decide.{ℕ-discrete, decLt}
 use native.Mathlib.Nat.{one-mul, mod-lt, div-eq-of-lt}
-use lib.Bits.{bitOr, or-shr, or-mod, or-zero-l, or-zero-r, shifted-even}
+use lib.Bits.{bitOr, or-shr, or-mod, or-zero-r, shifted-even}
 use lib.Pow.{pow-lt, pow-add, shl-shr}
 
 power-same : (k : ℕ) → 2 ^ k / 2 ^ k ≡ 1

@@ -5,6 +5,7 @@ pub mod Accepted
 pub mod Contiguous
 pub mod FieldBits
 pub mod RuleEnds
+pub mod IndexEnds
 pub mod Halves
 pub mod Encoded
 pub mod Fields

@@ -21,7 +21,8 @@ use Rattle.job.specs.Claims.{claimStart, boundAt, endIn}
 use Rattle.job.specs.declared.Cursor.{Cursor}
 use Rattle.job.specs.declared.Literal.{Literal}
 use Rattle.job.proofs.Contiguous.{claim-literals}
-use Rattle.job.proofs.RuleEnds.{end-same, end-more, end-most, end-here-in, end-next-in}
+use Rattle.job.proofs.RuleEnds.{end-same, end-more, end-most}
+use Rattle.job.proofs.IndexEnds.{end-here-in, end-next-in}
 use Rattle.table.specs.Layout.{markWord, cursorWord, cursor}
 use Rattle.turns.specs.Turn.{lits, litAt, failed, clear, passTurn}
 use Rattle.turns.specs.Ready.{Ready, Made}

@@ -25,7 +25,8 @@ use Rattle.job.specs.declared.Literal.{Literal}
 use Rattle.job.specs.declared.Literal.the-variants.{Plain}
 use Rattle.job.specs.declared.Cursor.{Cursor}
 use Rattle.job.proofs.Contiguous.{claim-literals}
-use Rattle.job.proofs.RuleEnds.{end-same, end-more, end-in}
+use Rattle.job.proofs.RuleEnds.{end-same, end-more}
+use Rattle.job.proofs.IndexEnds.{end-in}
 use Rattle.table.specs.Layout.{mark}
 use Rattle.turns.specs.Turn.{lits, litAt, falseMark, failed}
 use Rattle.turns.specs.Gather.{onward, metFrom, met}

@@ -8,7 +8,7 @@ use borrow.Author.Count.{below-none, below-more}
 use lib.ListN.{length, getD, length-set, length-replicate}
 use lib.Seq.{getD-set-other}
 use Rattle.job.proofs.Contiguous.{starts-here, rule-there, rule-below, rule-past, index-more}
-use Rattle.job.proofs.RuleEnds.{bounds-start, bounds-more, bounds-kept}
+use Rattle.job.proofs.IndexEnds.{bounds-start, bounds-more, bounds-kept}
 use Rattle.job.proofs.Parts.{bodyStart-next, body-within}
 use Rattle.job.specs.Claims.{claimStart, Bounds}
 use Rattle.job.specs.Format.{claims, rules, literals, headAt, bodyStart}

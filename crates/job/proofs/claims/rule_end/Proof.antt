@@ -4,7 +4,7 @@ use mathlib.Core.Path.{_≡_, sym, _∙_}
 use native.Mathlib.Omega.{arith}
 use borrow.Author.Needs.{needs}
 use Rattle.job.specs.Claims.{endIn}
-use Rattle.job.proofs.RuleEnds.{seek, end-seek, seek-found, seek-on, seek-over}
+use Rattle.job.proofs.IndexEnds.{seek, end-seek, seek-found, seek-on, seek-over}
 use Rattle.job.proofs.claims.rule_end.Statement.{statement}
 use Rattle.job.proofs.claims.rule_end.Tie as tie
 

@@ -1,5 +1,5 @@
 -- `job::claims::with_bit` meets its contract: a bit below 16 is not shifted out. Assumes nothing.
-use Prim.Native.Nat.{ℕ, _^_}
+use Prim.Native.Nat.{_^_}
 use mathlib.Core.Path.{_∙_, ap}
 use native.Mathlib.Nat.{one-mul}
 use native.Mathlib.Omega.{arith}
