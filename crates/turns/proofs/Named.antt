@@ -47,12 +47,12 @@ member (x ∷ l) d zero h = List·Memᴰ·head refl
 member (x ∷ l) d (suc i) h = List·Memᴰ·tail (member l d i (omega arith))
 
 -- the question at a place of the file
-pub record Found (qs : List Question) (c : ℕ) : Type 0 where
-  pub question : Question
-  pub is : question ∈ qs
-  pub claim : question .claim ≡ c
+record Found (qs : List Question) (c : ℕ) : Type 0 where
+  question : Question
+  is : question ∈ qs
+  claim : question .claim ≡ c
 
-pub found : (qs : List Question) (p : ℕ) → p < length qs → Found qs (claimAsked qs p)
+found : (qs : List Question) (p : ℕ) → p < length qs → Found qs (claimAsked qs p)
 unfolding claimAsked
 found [] p h = absurd (omega arith)
 found (q ∷ qs) zero h = record { question = q; is = List·Memᴰ·head refl; claim = refl }

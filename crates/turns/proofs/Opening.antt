@@ -1,4 +1,4 @@
--- What a turn opens a claim for: a question, or a literal that stands behind no complete false one (02, order 5). Assumes nothing.
+-- What a turn opens a claim for: the worker's next question, or a literal of its own that stands behind no complete false one (02, order 5). Assumes nothing.
 --   Place, place-of   members of a list by their places;    Split, split   a list by one of its members
 --   literal-opened    what C opens a claim for
 --   turn-opened       what any turn does;    on-opened   the clause `opened` of Promise
@@ -19,13 +19,11 @@ use Rattle.job.specs.declared.Check.the-variants.{Accepted}
 use Rattle.job.specs.declared.Literal.{Literal}
 use Rattle.job.specs.declared.Literal.the-variants.{Plain}
 use Rattle.job.proofs.RuleEnds.{Holding, rule-holding}
-use Rattle.table.specs.Questions.{askedBy, questionClaim}
 use Rattle.table.specs.Layout as W
 use Rattle.turns.specs.Turn.{Turned, litAt, failed, skipEnd, reached, completedMark, turn}
 use Rattle.turns.specs.Lists.{Call}
 use Rattle.turns.specs.Promise.{Fresh, from, FalseAmong, OpenedFor, question, literal}
 use Rattle.turns.proofs.Jobs.{JobOk, lits-length, valid-ok}
-use Rattle.turns.proofs.Places.{place-low}
 use Rattle.turns.proofs.Behind.{Behind, claim-lit}
 use Rattle.turns.proofs.Edges.{in-low}
 use Rattle.turns.proofs.Cases as K
@@ -34,7 +32,7 @@ use Rattle.turns.proofs.Words as X
 use Rattle.turns.proofs.Range.{c-room}
 use Rattle.turns.proofs.Takeover.{taken-in}
 use Rattle.turns.proofs.Runs.{Made}
-use Rattle.turns.proofs.Named.{found, false-failed}
+use Rattle.turns.proofs.Named.{false-failed}
 use Rattle.turns.proofs.OnLists.{valid, made-after}
 
 record Place {A : Type 0} (l : List A) (d y : A) : Type 0 where
@@ -107,38 +105,35 @@ module _ (j : Job) (v : Valid j) (t : List ℕ) (M : Made j t) where
           within = omega (arith, rule .at .end (p .at) (omega (arith, p .real, parts .long, size)), rule .to);
         })
 
-    pub opened-literal : OpenedFor j t (claimOf (litAt j c k))
-    opened-literal =
+    pub opened-literal : (w : ℕ) → W.mark t c ≡ w + 1 → OpenedFor j t w (claimOf (litAt j c k))
+    opened-literal w own =
         let e : litAt j c k ≡ parts .one =
         ap (litAt j c) (sym here)
         ∙ (its i (omega (arith, size))
         ∙ (ap (λ (n : ℕ). getD (parts .before ++ (parts .one ∷ parts .rest)) n (Plain 0)) (sym (parts .long)) ∙ getD-append-seam (parts .before) (parts .one) (parts .rest) (Plain 0))) in
-        literal (rule .rule) (rule .is) (parts .before) (parts .one) (parts .rest) (parts .is) (ap claimOf (sym e)) none-false
+        literal (rule .rule) (rule .is) (ap (W.mark t) (rule .headed) ∙ own) (parts .before) (parts .one) (parts .rest) (parts .is) (ap claimOf (sym e)) none-false
 
   module _ (w : ℕ) (small : w < j .workers) where
-    literal-opened : {n c : ℕ} → AtLeft j t w n c → Clear j t c → OpenedFor j t (K.literal j t c)
+    literal-opened : {n c : ℕ} → AtLeft j t w n c → Clear j t c → OpenedFor j t w (K.literal j t c)
     literal-opened {n} {c} a f =
-        subst (OpenedFor j t) (sym (claim-lit j c (W.cursor t c)))
-        (opened-literal c (W.cursor t c) (omega (arith, c-room J (M .range) small a, lits-length j c)) f)
+        subst (OpenedFor j t w) (sym (claim-lit j c (W.cursor t c)))
+        (opened-literal c (W.cursor t c) (omega (arith, c-room J (M .range) small a, lits-length j c)) f w (a .its))
 
-    question-opened : AtQuestion j t w → OpenedFor j t (asked j t w)
-    unfolding questionClaim
-    question-opened a =
-        let f = found (j .questions) (getD (askedBy j w) (W.answered j t w) 0) (place-low j w (W.answered j t w) (a .more)) in
-        question (f .question) (f .is) (f .claim)
+    question-opened : AtQuestion j t w → OpenedFor j t w (asked j t w)
+    question-opened a = question (a .more) refl
 
     -- b was fresh and is not
     module _ (b : ℕ) (h : b < j .claims) (z : W.mark t b ≡ 0) where
-      same : {m : ℕ} → m ≡ W.mark t b → (m ≡ 0 → ⊥) → OpenedFor j t b
+      same : {m : ℕ} → m ≡ W.mark t b → (m ≡ 0 → ⊥) → OpenedFor j t w b
       same e n = absurd (n (e ∙ z))
 
-      case-opened : (r : Turned) → Case j t w r → (W.mark (r .table) b ≡ 0 → ⊥) → OpenedFor j t b
+      case-opened : (r : Turned) → Case j t w r → (W.mark (r .table) b ≡ 0 → ⊥) → OpenedFor j t w b
       case-opened r (wakes x y) = same (X.await-mark j t w 0 b h)
       case-opened r (sleeps x y) = same refl
       case-opened r (rests x y c) = same refl
       case-opened r (answers x y) = same (X.stored-word j t w small (W.markWord b) (omega arith) (λ e. omega arith))
       case-opened r (opens-asked x y) =
-          by-cases (ℕ-discrete b (asked j t w)) (λ e n. subst (OpenedFor j t) (sym e) (question-opened x)) (λ e. same (X.open-marks t w (asked j t w) b e))
+          by-cases (ℕ-discrete b (asked j t w)) (λ e n. subst (OpenedFor j t w) (sym e) (question-opened x)) (λ e. same (X.open-marks t w (asked j t w) b e))
       case-opened r (waits-asked x y c) = same (X.await-mark j t w (asked j t w + 1) b h)
       case-opened r (completes {n = n} x y) =
           same (X.marks-out j (completedMark j t) (reached j t n) t (λ c i. in-low j J t c (x .low) i) b (λ i. omega (arith, y b i .0)))
@@ -146,7 +141,7 @@ module _ (j : Job) (v : Valid j) (t : List ℕ) (M : Made j t) where
       case-opened r (passes {c = c} x y f) = same (X.cursor-mark j t c (W.cursor t c + 1) b)
       case-opened r (skips {c = c} x y) = same (X.cursor-mark j t c (skipEnd j t c) b)
       case-opened r (opens {c = c} x y f) =
-          by-cases (ℕ-discrete b (K.literal j t c)) (λ e n. subst (OpenedFor j t) (sym e) (literal-opened x f))
+          by-cases (ℕ-discrete b (K.literal j t c)) (λ e n. subst (OpenedFor j t w) (sym e) (literal-opened x f))
           (λ e. same (X.open-marks (moved t c) w (K.literal j t c) b e ∙ X.cursor-mark j t c (W.cursor t c + 1) b))
       case-opened r (takes {c = c} x y m f) =
           same
@@ -154,8 +149,8 @@ module _ (j : Job) (v : Valid j) (t : List ℕ) (M : Made j t) where
           ∙ X.cursor-mark j t c (W.cursor t c + 1) b)
       case-opened r (waits {c = c} x y m f) = same (X.await-mark j (moved t c) w (K.literal j t c + 1) b h ∙ X.cursor-mark j t c (W.cursor t c + 1) b)
 
-      pub turn-opened : (W.mark (turn j t w .table) b ≡ 0 → ⊥) → OpenedFor j t b
+      pub turn-opened : (W.mark (turn j t w .table) b ≡ 0 → ⊥) → OpenedFor j t w b
       turn-opened = case-opened (turn j t w) (turn-case j t w)
 
-pub on-opened : (s : List ℕ) (e : Accepted ≡ checkJob s) (t : List ℕ) (room : Fresh s t) (xs : List Call) (w b : ℕ) → w < jobOf s .workers → b < jobOf s .claims → W.mark (from s t xs) b ≡ 0 → (W.mark (turn (jobOf s) (from s t xs) w .table) b ≡ 0 → ⊥) → OpenedFor (jobOf s) (from s t xs) b
+pub on-opened : (s : List ℕ) (e : Accepted ≡ checkJob s) (t : List ℕ) (room : Fresh s t) (xs : List Call) (w b : ℕ) → w < jobOf s .workers → b < jobOf s .claims → W.mark (from s t xs) b ≡ 0 → (W.mark (turn (jobOf s) (from s t xs) w .table) b ≡ 0 → ⊥) → OpenedFor (jobOf s) (from s t xs) w b
 on-opened s e t room xs w b small h z = turn-opened (jobOf s) (valid s e) (from s t xs) (made-after s e t room xs) w small b h z

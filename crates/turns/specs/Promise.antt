@@ -5,7 +5,7 @@
 --   Asked j c       a question names c or leads to it through all literals of rules
 --   FalseAmong      one of some literals is complete and false
 --   OthersBehind    the literals of rules of complete claims whose claims aren't complete stand behind a complete false one
---   OpenedFor       what a claim is opened for
+--   OpenedFor       what a worker opens a claim for
 --   alone j         the same job with one worker, worker 0, in every question
 --   turns n         n single turns of worker 0
 --   bound j         2L + A + 3Q
@@ -25,7 +25,7 @@ use Rattle.job.specs.declared.Literal.{Literal}
 use Rattle.job.specs.declared.Question.{Question}
 use Rattle.model.specs.Model.{programOf, False, verdict, literalVerdict, byteOf}
 use Rattle.table.specs.Questions.{askedBy, questionClaim}
-use Rattle.table.specs.Layout.{used, mark, answerWord}
+use Rattle.table.specs.Layout.{used, mark, answered, answerWord}
 use Rattle.table.specs.Ranges.{checkTable}
 use Rattle.table.specs.Start.{startWords}
 use Rattle.table.specs.Reading.{readingOf, readingValue}
@@ -65,12 +65,12 @@ OthersBehind j t =
     (r : Rule) → r ∈ j .rules → Complete t (r .head) → (before : List Literal) (l : Literal) (rest : List Literal) → r .body ≡ before ++ (l ∷ rest)
     → (Complete t (claimOf l) → ⊥) → FalseAmong j t before
 
--- what claim b is opened for: a question, or a literal that stands behind no complete false one
-pub data OpenedFor (j : Job) (t : List ℕ) (b : ℕ) : Type 0 where
-  question : (q : Question) → q ∈ j .questions → q .claim ≡ b → OpenedFor j t b
+-- what w opens claim b for: its next question, or a literal of a rule of its own open claims that stands behind no complete false one
+pub data OpenedFor (j : Job) (t : List ℕ) (w b : ℕ) : Type 0 where
+  question : answered j t w < length (askedBy j w) → questionClaim j w (answered j t w) ≡ b → OpenedFor j t w b
   literal :
-      (r : Rule) → r ∈ j .rules → (before : List Literal) (l : Literal) (rest : List Literal) → r .body ≡ before ++ (l ∷ rest) → claimOf l ≡ b
-      → (FalseAmong j t before → ⊥) → OpenedFor j t b
+      (r : Rule) → r ∈ j .rules → mark t (r .head) ≡ w + 1 → (before : List Literal) (l : Literal) (rest : List Literal) → r .body ≡ before ++ (l ∷ rest)
+      → claimOf l ≡ b → (FalseAmong j t before → ⊥) → OpenedFor j t w b
 
 -- "One worker asking everything: the same job with T 1 and worker 0 in every question"
 unfoldable pub alone : Job → Job
@@ -102,7 +102,7 @@ pub record Promise (s : List ℕ) : Type 0 where
   -- "Most rules fail at their first literal, and we open claims for nothing": no longer, in any turn after any list
   pub opened :
       (t : List ℕ) → Fresh s t → (xs : List Call) (w b : ℕ) → w < jobOf s .workers → b < jobOf s .claims → mark (from s t xs) b ≡ 0
-      → (mark (turn (jobOf s) (from s t xs) w .table) b ≡ 0 → ⊥) → OpenedFor (jobOf s) (from s t xs) b
+      → (mark (turn (jobOf s) (from s t xs) w .table) b ≡ 0 → ⊥) → OpenedFor (jobOf s) (from s t xs) w b
   -- every further call finds the table as rows 9 and 10 want it
   pub accepted : (t : List ℕ) → Fresh s t → (xs : List Call) → Accepted ≡ checkTable (jobOf s) (from s t xs)
   -- "each answered question has the answer that one worker asking everything in sequence gets", by the question's position in the file
