@@ -38,7 +38,8 @@ use Rattle.turns.specs.Promise.{Asked}
 use Rattle.turns.proofs.Starting.{start-started}
 use Rattle.turns.proofs.Runs.{Low, Made, made-start, made-run}
 use Rattle.turns.proofs.Promise.{only-led, none-open}
-use Rattle.turns.proofs.Named.{led-asked, stands-behind}
+use Rattle.turns.proofs.Named.{led-asked}
+use Rattle.turns.proofs.RulesBehind.{stands-behind}
 use Rattle.turns.proofs.Answers.{complete-mark, mark-complete}
 use Rattle.turns.proofs.OnLists.{valid, ok}
 use Rattle.turns.proofs.Histories.{low-append, low-all}

@@ -7,7 +7,8 @@ use Rattle.job.specs.Checks.{checkJob}
 use Rattle.job.specs.declared.Check.the-variants.{Accepted}
 use Rattle.turns.specs.Promise.{Promise}
 use Rattle.turns.proofs.OnLists.{answer-is, on-accepted, on-verdicts, on-values, on-holds, on-quiet, on-changes, on-rounds}
-use Rattle.turns.proofs.Named.{on-claims, on-literals}
+use Rattle.turns.proofs.Named.{on-claims}
+use Rattle.turns.proofs.RulesBehind.{on-literals}
 use Rattle.turns.proofs.Opening.{on-opened}
 use Rattle.turns.proofs.Alone.{alone-accepted, alone-answers, on-answers}
 

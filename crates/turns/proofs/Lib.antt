@@ -49,6 +49,7 @@ pub mod Histories
 pub mod Answers
 pub mod OnLists
 pub mod Named
+pub mod RulesBehind
 pub mod Opening
 pub mod Alone
 pub mod Demands

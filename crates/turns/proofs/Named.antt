@@ -1,47 +1,33 @@
--- Which claims turns complete: those that questions name or lead to, by lists (Asked) and by places (Led), and of the literals of their rules
--- all but those behind a false one, by rules (OthersBehind) and by places (Behind). Assumes nothing.
---   led-asked, stands-behind   from places to lists and rules
---   on-claims, on-literals     the clauses `claims` and `literals` of Promise
-use mathlib.Core.Path.{_≡_, refl, sym, _∙_, ap, subst}
-use mathlib.Core.Logic.{by-cases}
-use mathlib.Core.List.{List, [], _∷_, _++_, List·Memᴰ·head, List·Memᴰ·tail}
-use Prim.Native.Nat.{ℕ, zero, suc, _+_, _-_, _≤_, _<_}
+-- The claims that questions name or lead to, by lists (Asked) and by places (Led). Assumes nothing.
+--   member      a list's member at a place
+--   led-asked   from places to lists;    on-claims   the clause `claims` of Promise
+use mathlib.Core.Path.{_≡_, refl, sym, ap, subst}
+use mathlib.Core.List.{List, [], _∷_, List·Memᴰ·head, List·Memᴰ·tail}
+use Prim.Native.Nat.{ℕ, zero, suc, _-_, _<_}
 use native.Mathlib.Omega.{arith}
-use native.Mathlib.Decide.{decLt}
-use lib.Dec.{T, eqb→eq}
-use lib.ListN.{length, getD, length-append, List·getD-append}
-use lib.Seq.{getD-append-seam}
+use lib.ListN.{length, getD}
 use Rattle.base.specs.Graph.{Reach, here, step}
-use Rattle.job.specs.Job.{Job, Rule, claimOf, literalsOf}
+use Rattle.job.specs.Job.{Job}
 use Rattle.job.specs.Format.{jobOf}
 use Rattle.job.specs.Encoding.{_∈_, Valid}
 use Rattle.job.specs.Checks.{checkJob}
 use Rattle.job.specs.declared.Check.the-variants.{Accepted}
-use Rattle.job.specs.declared.Literal.{Literal}
-use Rattle.job.specs.declared.Literal.the-variants.{Plain, Negated}
 use Rattle.job.specs.declared.Question.{Question}
-use Rattle.job.proofs.RuleEnds.{RuleAt, rule-at}
-use Rattle.model.specs.Model.{Verdict, True, False, Undefined, opposite, programOf, literalVerdict, byteOf}
 use Rattle.table.specs.Questions.{askedBy, claimAsked, questionClaim}
 use Rattle.table.specs.Layout as W
 use Rattle.table.specs.Start.{startWords}
 use Rattle.waiting.specs.Led as L
-use Rattle.turns.specs.Turn.{lits, litAt, failed, runTable}
+use Rattle.turns.specs.Turn.{lits, runTable}
 use Rattle.turns.specs.Lists.{Call, turnsOf, Complete}
-use Rattle.turns.specs.Promise.{Fresh, from, Leads, Asked, FalseAmong, OthersBehind}
-use Rattle.turns.proofs.Tests.{is-eq}
-use Rattle.turns.proofs.Jobs.{JobOk, lits-length, valid-ok}
+use Rattle.turns.specs.Promise.{Fresh, from, Leads, Asked}
 use Rattle.turns.proofs.Places.{place-low}
-use Rattle.turns.proofs.Behind.{Behind, claim-lit, failed-done}
-use Rattle.turns.proofs.Verdicts.{verdictIn}
-use Rattle.turns.proofs.Runs.{Made}
-use Rattle.turns.proofs.Promise.{LitAt, led-job, only-led, else-behind}
+use Rattle.turns.proofs.Promise.{LitAt, led-job, only-led}
 use Rattle.turns.proofs.Histories.{turns-low, after-turns}
-use Rattle.turns.proofs.Answers.{complete-mark, mark-complete}
+use Rattle.turns.proofs.Answers.{complete-mark}
 use Rattle.turns.proofs.OnLists.{valid, ok, started, made-after}
 
 -- members of a list, by their places
-member : {A : Type 0} (l : List A) (d : A) (i : ℕ) → i < length l → getD l i d ∈ l
+pub member : {A : Type 0} (l : List A) (d : A) (i : ℕ) → i < length l → getD l i d ∈ l
 member [] d i h = absurd (omega arith)
 member (x ∷ l) d zero h = List·Memᴰ·head refl
 member (x ∷ l) d (suc i) h = List·Memᴰ·tail (member l d i (omega arith))
@@ -71,102 +57,6 @@ module _ (j : Job) (v : Valid j) where
       let f = found (j .questions) (getD (askedBy j w) i 0) (place-low j w i l) in
       record { question = f .question; is = f .is; leads = subst (λ (x : ℕ). Reach (Leads j) x c) (sym (f .claim)) (by-list p) }
 
-true-false : True ≡ False → ⊥
-true-false e = let z : _≡_ {A = ℕ} 0 1 = cc in absurd (omega arith)
-
-undefined-false : Undefined ≡ False → ⊥
-undefined-false e = let z : _≡_ {A = ℕ} 0 1 = cc in absurd (omega arith)
-
--- in any table that turns made
-module _ (j : Job) (v : Valid j) (t : List ℕ) (M : Made j t) where
-  abbrev J : JobOk j
-  J = valid-ok j v
-
-  by-byte : (u : Verdict) → byteOf u ≡ 2 → u ≡ False
-  by-byte True e = absurd (omega arith)
-  by-byte False e = refl
-  by-byte Undefined e = absurd (omega arith)
-
-  by-one : (u : Verdict) → byteOf u ≡ 1 → opposite u ≡ False
-  by-one True e = refl
-  by-one False e = absurd (omega arith)
-  by-one Undefined e = absurd (omega arith)
-
-  -- a literal that fails is false in the model
-  failed-false : (l : Literal) → claimOf l < j .claims → T (failed t l) → literalVerdict (programOf j) l ≡ False
-  unfolding failed
-  failed-false (Plain c) h f =
-      let e = eqb→eq (W.mark t c) 257 f in
-      by-byte (verdictIn j c) (omega (arith, M .verdicts .marks c h (omega arith)))
-  failed-false (Negated c) h f =
-      let e = eqb→eq (W.mark t c) 256 f in
-      by-one (verdictIn j c) (omega (arith, M .verdicts .marks c h (omega arith)))
-
-  -- and a complete literal that is false in the model fails
-  by-false : (u : Verdict) → u ≡ False → byteOf u ≡ 2
-  by-false u e = ap byteOf e
-
-  by-opposite : (u : Verdict) → opposite u ≡ False → byteOf u ≡ 1
-  by-opposite True e = refl
-  by-opposite False e = absurd (true-false e)
-  by-opposite Undefined e = absurd (undefined-false e)
-
-  pub false-failed : (l : Literal) → claimOf l < j .claims → Complete t (claimOf l) → literalVerdict (programOf j) l ≡ False → T (failed t l)
-  unfolding failed
-  false-failed (Plain c) h d e =
-      is-eq (W.mark t c) 257 (omega (arith, by-false (verdictIn j c) e, M .verdicts .marks c h (complete-mark J M c h d)))
-  false-failed (Negated c) h d e =
-      is-eq (W.mark t c) 256 (omega (arith, by-opposite (verdictIn j c) e, M .verdicts .marks c h (complete-mark J M c h d)))
-
-  -- literal k of rule r, which stands at p among its head's, and one of the rule before it that fails
-  module _ (r : Rule) (p : RuleAt (r .head) (j .rules) r) (before : List Literal) (l : Literal) (rest : List Literal) (e : r .body ≡ before ++ (l ∷ rest)) where
-    sized : length (r .body) ≡ length before + suc (length rest)
-    sized = ap length e ∙ length-append before (l ∷ rest)
-
-    its : litAt j (r .head) (p .from + length before) ≡ l
-    unfolding litAt
-    its =
-        p .literal (length before) (omega (arith, sized))
-        ∙ (ap (λ (ls : List Literal). getD ls (length before) (Plain 0)) e ∙ getD-append-seam before l rest (Plain 0))
-
-    module _ (b : Behind j t (r .head) (p .from + length before)) where
-      not-before : p .from ≤ b .at
-      not-before = by-cases (decLt (b .at) (p .from)) (λ h. absurd (omega (arith, p .before (b .at) h, b .within))) (λ h. omega arith)
-
-      in-rule : litAt j (r .head) (b .at) ≡ getD before (b .at - p .from) (Plain 0)
-      unfolding litAt
-      in-rule =
-          let z : p .from + (b .at - p .from) ≡ b .at = omega (arith, not-before) in
-          ap (λ (i : ℕ). getD (literalsOf (r .head) (j .rules)) i (Plain 0)) (sym z)
-          ∙ (p .literal (b .at - p .from) (omega (arith, b .before, sized, not-before))
-          ∙ (ap (λ (ls : List Literal). getD ls (b .at - p .from) (Plain 0)) e
-          ∙ List·getD-append before (l ∷ rest) (Plain 0) (b .at - p .from) (omega (arith, b .before, not-before))))
-
-      among : FalseAmong j t before
-      among =
-          let x = getD before (b .at - p .from) (Plain 0) in
-          let f : T (failed t (getD before (b .at - p .from) (Plain 0))) = subst (λ (y : Literal). T (failed t y)) in-rule (b .fails) in
-          let low : claimOf (getD before (b .at - p .from) (Plain 0)) < j .claims =
-          subst (λ (y : ℕ). y < j .claims) (claim-lit j (r .head) (b .at) ∙ ap claimOf in-rule)
-          (J .literal (r .head) (b .at) (omega (arith, b .before, p .most, sized, lits-length j (r .head)))) in
-          record {
-            literal = x;
-            is = member before (Plain 0) (b .at - p .from) (omega (arith, b .before, not-before));
-            complete = mark-complete J M (claimOf x) low (failed-done t x f);
-            false = failed-false x low f;
-          }
-
-  pub stands-behind : OthersBehind j t
-  stands-behind r i d before l rest e n =
-      let c = r .head in
-      let p = rule-at (r .head) (j .rules) r i refl in
-      let k = p .from + length before in
-      let low : p .from + length before < length (lits j (r .head)) = omega (arith, p .most, sized r p before l rest e, lits-length j (r .head)) in
-      let is : getD (lits j (r .head)) (p .from + length before) 0 ≡ claimOf l = claim-lit j (r .head) (p .from + length before) ∙ ap claimOf (its r p before l rest e) in
-      among r p before l rest e
-      (else-behind j J t M c (v .heads r i) (complete-mark J M c (v .heads r i) d) k low
-      (λ m. n (subst (Complete t) is (mark-complete J M (getD (lits j c) k 0) (J .literal c k low) m))))
-
 module _ (s : List ℕ) (e : Accepted ≡ checkJob s) (t : List ℕ) (room : Fresh s t) (xs : List Call) where
   abbrev start : List ℕ
   start = startWords (jobOf s) t
@@ -182,6 +72,3 @@ module _ (s : List ℕ) (e : Accepted ≡ checkJob s) (t : List ℕ) (room : Fre
       led-asked (jobOf s) (valid s e) c
       (only-led (jobOf s) (ok s e) start (started s e t room xs) ws (turns-low s xs start) c h
       (omega (arith, complete-mark (ok s e) (made-after s e t room xs) c h d, after-is c)))
-
-  pub on-literals : OthersBehind (jobOf s) (from s t xs)
-  on-literals = stands-behind (jobOf s) (valid s e) (from s t xs) (made-after s e t room xs)

@@ -32,7 +32,7 @@ use Rattle.turns.proofs.Words as X
 use Rattle.turns.proofs.Range.{c-room}
 use Rattle.turns.proofs.Takeover.{taken-in}
 use Rattle.turns.proofs.Runs.{Made}
-use Rattle.turns.proofs.Named.{false-failed}
+use Rattle.turns.proofs.RulesBehind.{false-failed}
 use Rattle.turns.proofs.OnLists.{valid, made-after}
 
 record Place {A : Type 0} (l : List A) (d y : A) : Type 0 where
