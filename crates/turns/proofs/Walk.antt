@@ -3,7 +3,7 @@
 --   met-first, met-none   the claims met, one by one
 --   lit-is, end-is   the job's literal a + i is c's literal i, and the index has its rule's end
 --   met-in, in-met   whose claims are met: of literals that stand behind none
---   failed-is, onward-yes, onward-no   by the tests that the code makes
+--   failed-is, failed-low, onward-yes, onward-no   by the tests that the code makes
 use Prim.Native.Nat.{ℕ, zero, suc, _+_, _-_, _≤_, _<_}
 use mathlib.Core.Path.{_≡_, refl, sym, _∙_, ap, ap₂, subst}
 use mathlib.Core.Logic.{by-cases}
@@ -13,7 +13,7 @@ use native.Mathlib.Omega.{arith}
 use native.Mathlib.Decide.{ℕ-discrete, decLt}
 use lib.Dec.{T, eqb, leb, leb→le, le→leb}
 use lib.ListN.{length, getD}
-use Rattle.base.proofs.Bools.{is, is-not}
+use Rattle.base.proofs.Bools.{is, is-not, same}
 use Rattle.base.proofs.Choose.{t?, pick-elim, pick-yes, pick-no}
 use Rattle.base.proofs.Lists.{In, in-head, in-tail, InCons, first, later, in-cases, in-nil}
 use Rattle.base.proofs.Span.{getD-span}
@@ -31,7 +31,7 @@ use Rattle.table.specs.Layout.{mark}
 use Rattle.turns.specs.Turn.{lits, litAt, falseMark, failed}
 use Rattle.turns.specs.Gather.{onward, metFrom, met}
 use Rattle.turns.proofs.Jobs.{lits-length}
-use Rattle.turns.proofs.Behind.{claim-lit, Behind}
+use Rattle.turns.proofs.Behind.{failed-done, claim-lit, Behind}
 
 -- one step
 module _ (index t : List ℕ) (l : Literal) (c : Cursor) where
@@ -219,6 +219,10 @@ module _ (s index t : List ℕ) (w : WellFormed s) (x : Index s index) (c : ℕ)
 pub failed-is : (t : List ℕ) (l : Literal) {b m f : ℕ} → b ≡ claimOf l → m ≡ mark t b → f ≡ falseMark l → eqb m f ≡ failed t l
 unfolding failed
 failed-is t l e q r = ap₂ eqb (q ∙ ap (mark t) e) r
+
+-- a claim that isn't complete makes no literal false
+pub failed-low : (t : List ℕ) (l : Literal) {b m : ℕ} → b ≡ claimOf l → m ≡ mark t b → m < 256 → false ≡ failed t l
+failed-low t l e q h = same false (failed t l) (λ z. absurd z) (λ z. absurd (omega (arith, failed-done t l z, ap (mark t) e)))
 
 module _ (index t : List ℕ) (l : Literal) (c : Cursor) {r : Bool} (e : r ≡ failed t l) {d : Cursor} where
   pub onward-yes : r ≡ true → d ≡ pastRule index c → d ≡ onward index t l c

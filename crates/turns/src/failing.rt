@@ -26,12 +26,16 @@ fn false_mark(literal: Literal) -> usize
     }
 }
 
-// Whether a literal is complete and false.
+// Whether a literal is complete and false. Most claims that a gathering meets are open, so that is asked first.
 fn failed(table: &[u32], literal: Literal) -> bool
     requires { ⌜ markWord (claimOf literal) < length (now table) ⌝ }
     ensures { λ r. ⌜ r ≡ failedIn (now (table .entry)) literal ⌝ }
 {
-    words::mark_at(table, format::claim_of(literal)) == false_mark(literal)
+    let mark = words::mark_at(table, format::claim_of(literal));
+    if mark < words::TRUE_MARK {
+        return false;
+    }
+    mark == false_mark(literal)
 }
 
 // The cursor past this literal, its current one, or past its rule where the literal is complete and false: what stands behind leads nowhere.

@@ -1,6 +1,6 @@
 -- `turns::failing::failed` meets its contract. Assumes nothing.
 use borrow.Author.Needs.{needs}
-use Rattle.turns.proofs.Walk.{failed-is}
+use Rattle.turns.proofs.Walk.{failed-is, failed-low}
 use Rattle.turns.proofs.failing.failed.Statement.{statement}
 use Rattle.turns.proofs.failing.failed.Tie as tie
 
@@ -10,11 +10,15 @@ claim-of-requires c κs = search needs
 mark-at-requires : tie.Need-mark-at-requires
 mark-at-requires c κs = search needs
 
+returns : tie.Need-returns
+returns c = failed-low _ _ (c .before .before .claim-of .ensures) (c .before .mark-at .ensures .value) (c .if1 .taken)
+
 false-mark-requires : tie.Need-false-mark-requires
 false-mark-requires c κs = search needs
 
-returns : tie.Need-returns
-returns c = failed-is _ _ (c .before .before .claim-of .ensures) (c .before .mark-at .ensures .value) (c .false-mark .ensures)
+returns-2 : tie.Need-returns-2
+returns-2 c = failed-is _ _ (c .before .before .before .claim-of .ensures) (c .before .before .mark-at .ensures .value) (c .false-mark .ensures)
 
 pub failed-spec : {M : Type 1} → statement M
-failed-spec = tie.close (tie.spec claim-of-requires mark-at-requires false-mark-requires returns)
+failed-spec =
+    tie.close (tie.spec claim-of-requires mark-at-requires returns false-mark-requires returns-2)
