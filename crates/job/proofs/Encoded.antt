@@ -8,7 +8,7 @@ use native.Mathlib.Omega.{arith}
 use lib.ListN.{length, length-append, length-map}
 use Rattle.job.specs.Job.{Rule, Job, bodyCount, literalCount}
 use Rattle.job.specs.Format.{ruleByte, literalByte, questionByte}
-use Rattle.job.specs.Encoding.{headerBytes, fieldOf, bodyBytes, encode, halfBytes}
+use Rattle.job.specs.Encoding.{headerBytes, lengthOf, fieldOf, bodyBytes, encode, halfBytes}
 use Rattle.job.specs.declared.Literal.{Literal}
 use Rattle.job.specs.declared.Question.{Question}
 use Rattle.job.proofs.Halves.{At, bytesOf, at-append, append-at, bytes-append}
@@ -39,7 +39,7 @@ abbrev pub headerFields : Job → List ℕ
 headerFields j = pairs (λ x. x) (λ x. x / 65536) (wordsOf j)
 
 abbrev pub ruleFields : List Rule → List ℕ
-ruleFields rs = pairs (λ r. r .head) (λ r. length (r .body)) rs
+ruleFields rs = pairs (λ r. r .head) lengthOf rs
 
 abbrev pub bodyFields : List Rule → List ℕ
 bodyFields [] = []
@@ -101,7 +101,7 @@ pub record Holds (s : List ℕ) (j : Job) : Type 0 where
 module _ (j : Job) where
   to-bodies : 0 + 2 * length (headerFields j ++ ruleFields (j .rules)) ≡ literalByte (length (j .rules)) 0
   to-bodies =
-      omega (arith, length-append (headerFields j) (ruleFields (j .rules)), length-pairs (λ (r : Rule). r .head) (λ (r : Rule). length (r .body)) (j .rules))
+      omega (arith, length-append (headerFields j) (ruleFields (j .rules)), length-pairs (λ (r : Rule). r .head) lengthOf (j .rules))
 
   to-questions : 0 + 2 * length (headerFields j ++ ruleFields (j .rules) ++ bodyFields (j .rules)) ≡ questionByte (length (j .rules)) (literalCount j) 0
   to-questions =

@@ -11,13 +11,13 @@ use Rattle.job.specs.Accepted.{Sized, WellFormed}
 use Rattle.job.specs.Encoding.{encode, Valid, Reading}
 use Rattle.job.proofs.Accepted.{well-formed, accepted}
 use Rattle.job.proofs.Encoded.{wordsOf}
-use Rattle.job.proofs.Fields.{words-small, literals-small, encode-holds, encode-length, holds-encode}
+use Rattle.job.proofs.Fields.{words-small, rules-whole, literals-small, encode-holds, encode-length, holds-encode}
 use Rattle.job.proofs.Decoded.{Words, words-at, job-read}
 use Rattle.job.proofs.Written.{rules-count, questions-count, literals-count, job-write}
 use Rattle.job.proofs.Valid.{well-formed-valid, valid-well-formed}
 
 pub decoded : (j : Job) → Valid j → jobOf (encode j) ≡ j
-decoded j v = job-read (encode j) j (words-small j v) (literals-small j v) (encode-holds j v)
+decoded j v = job-read (encode j) j (words-small j v) (literals-small j v) (rules-whole j v) (encode-holds j v)
 
 -- what the header of an encoding says
 sized : (s : List ℕ) (j : Job) → Valid j → Words s 0 (wordsOf j) → length s ≡ questionByte (length (j .rules)) (literalCount j) (length (j .questions)) → Sized s

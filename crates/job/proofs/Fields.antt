@@ -13,6 +13,7 @@ use Rattle.job.specs.Encoding.{fieldOf, encode, _∈_, Valid}
 use Rattle.job.specs.declared.Literal.{Literal}
 use Rattle.job.specs.declared.Literal.the-variants.{Plain, Negated}
 use Rattle.job.proofs.Halves.{Small, bytesOf, small-append, length-bytes, at-bytes, bytes-at}
+use Rattle.job.proofs.Lengths.{Whole, length-small}
 use Rattle.job.proofs.Encoded.{wordsOf, pairs, headerFields, ruleFields, bodyFields, questionFields, fieldsOf, encode-bytes, Holds, length-fields, at-holds, holds-at}
 
 -- part by part
@@ -50,6 +51,9 @@ module _ (j : Job) (v : Valid j) where
   pub words-small : Small (wordsOf j)
   words-small = omega arith
 
+  pub rules-whole : (r : Rule) → r ∈ j .rules → Whole r
+  rules-whole r m = record { short = omega (arith, body-count r (j .rules) m, v .literalsMost); none = λ e. ap length (v .missing r m e) }
+
   pub literals-small : (r : Rule) → r ∈ j .rules → (l : Literal) → l ∈ r .body → claimOf l < 32768
   literals-small r m l k = omega (arith, v .literals r m l k)
 
@@ -58,7 +62,7 @@ module _ (j : Job) (v : Valid j) where
       small-append (headerFields j ++ ruleFields (j .rules) ++ bodyFields (j .rules)) (questionFields (j .questions))
       (small-append (headerFields j ++ ruleFields (j .rules)) (bodyFields (j .rules))
       (small-append (headerFields j) (ruleFields (j .rules)) (small-words (wordsOf j) words-small)
-      (small-pairs _ _ (j .rules) (λ r m. (omega (arith, v .heads r m), omega (arith, body-count r (j .rules) m)))))
+      (small-pairs _ _ (j .rules) (λ r m. (omega (arith, v .heads r m), length-small r (rules-whole r m)))))
       (small-bodies (j .rules) literals-small))
       (small-pairs _ _ (j .questions) (λ q m. (omega (arith, v .askers q m), omega (arith, v .asked q m))))
 

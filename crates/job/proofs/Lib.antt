@@ -1,4 +1,5 @@
 pub mod Literals
+pub mod Lengths
 pub mod Rows
 pub mod Parts
 pub mod Accepted

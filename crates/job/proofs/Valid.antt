@@ -1,18 +1,21 @@
 -- Bytes with a header's counts and offsets are well formed exactly where the job that they mean is valid. Assumes nothing.
 use Prim.Native.Nat.{ℕ, zero, suc, _+_, _<_, _≤_}
 use mathlib.Core.Path.{_≡_}
-use mathlib.Core.List.{List}
+use mathlib.Core.Bool.{true}
+use mathlib.Core.List.{List, []}
 use mathlib.Core.Logic.{⊎-elim, by-cases}
 use native.Mathlib.Decide.{decLt}
 use native.Mathlib.Omega.{arith}
 use native.Mathlib.Nat.{eq-or-lt-of-le}
 use Rattle.base.specs.Span.{span}
+use Rattle.base.proofs.Span.{span-none}
 use Rattle.base.proofs.Members.{span-all, span-at}
 use Rattle.job.specs.Job.{claimOf}
 use Rattle.job.specs.Format.{claims, rules, literals, workers, questions, headAt, headBefore, bodyLengthAt, bodyStart, literalAt, questionAt, ruleAt, jobOf}
 use Rattle.job.specs.Accepted.{Sized, WellFormed}
 use Rattle.job.specs.Encoding.{_∈_, Rising, Valid}
 use Rattle.job.specs.declared.Literal.{Literal}
+use Rattle.job.proofs.Lengths.{missing-none}
 use Rattle.job.proofs.Parts.{body-within}
 use Rattle.job.proofs.Written.{rules-count, questions-count, literals-count}
 
@@ -57,6 +60,10 @@ unfolding ruleAt
 rule-literals s w i h =
     span-all (λ l. claimOf l < claims s) (literalAt s (rules s)) (bodyStart s i) (bodyLengthAt s i) (λ k g l. w .literal k (omega (arith, body-within s i (rules s) h, w .bodies)))
 
+rule-missing : (s : List ℕ) (i : ℕ) → ruleAt s (rules s) i .missing ≡ true → ruleAt s (rules s) i .body ≡ []
+unfolding ruleAt
+rule-missing s i e = span-none (literalAt s (rules s)) (bodyStart s i) (bodyLengthAt s i) (omega (arith, missing-none s i e))
+
 pub well-formed-valid : (s : List ℕ) → WellFormed s → Valid (jobOf s)
 unfolding jobOf headBefore ruleAt
 well-formed-valid s w =
@@ -70,6 +77,7 @@ well-formed-valid s w =
       questionsMost = omega (arith, questions-count s);
       headsRise = rising s (rules s) 0 (rules s) (λ k l. w .rise k (omega arith));
       heads = span-all (λ r. r .head < claims s) (ruleAt s (rules s)) 0 (rules s) (λ i g l. w .head i (omega arith));
+      missing = span-all (λ r. r .missing ≡ true → r .body ≡ []) (ruleAt s (rules s)) 0 (rules s) (λ i g l. rule-missing s i);
       literals = span-all (λ r. (l : Literal) → l ∈ r .body → claimOf l < claims s) (ruleAt s (rules s)) 0 (rules s) (λ i g l. rule-literals s w i (omega arith));
       askers = span-all (λ q. q .worker < workers s) (questionAt s (rules s) (literals s)) 0 (questions s) (λ q g l. w .asker q (omega arith));
       asked = span-all (λ q. q .claim < claims s) (questionAt s (rules s) (literals s)) 0 (questions s) (λ q g l. w .asked q (omega arith));

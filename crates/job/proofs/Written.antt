@@ -17,6 +17,7 @@ use Rattle.job.specs.Encoding.{fieldOf}
 use Rattle.job.proofs.Halves.{At, Small, append-at}
 use Rattle.job.proofs.Encoded.{wordsOf, pairs, ruleFields, bodyFields, questionFields, Holds}
 use Rattle.job.proofs.Literals.{literal-plain, literal-negated}
+use Rattle.job.proofs.Lengths.{length-written}
 use Rattle.job.proofs.Decoded.{Words}
 
 -- words that have 16 bits, as fields
@@ -47,7 +48,7 @@ unfolding span ruleAt
 rules-write s m i zero = tt
 rules-write s m i (suc n) =
     let e : ruleByte i + 2 + 2 ≡ ruleByte (suc i) = omega arith in
-    (refl, (sym (length-span (literalAt s m) (bodyStart s i) (bodyLengthAt s i)), rw e (rules-write s m (suc i) n)))
+    (refl, (length-written s i _ _ (length-span (literalAt s m) (bodyStart s i) (bodyLengthAt s i)), rw e (rules-write s m (suc i) n)))
 
 bodies-write : (s : List ℕ) (m i n : ℕ) → At s (literalByte m (bodyStart s i)) (bodyFields (span (ruleAt s m) i n))
 unfolding span ruleAt bodyStart

@@ -1,16 +1,19 @@
 -- Which bytes are a job's: the encoding of a job, written out along 01, 'Job bytes', and what the check promises of it.
 --   halfBytes x, wordBytes x   16 and 32 bits, little-endian
+--   lengthOf r                 a rule's body length as written, 65,535 for a missing record
 --   fieldOf l                  a literal's 16 bits
 --   encode j                   the bytes of job j
---   Valid j                    j is within the limits, its heads never fall, all its numbers are below their counts
+--   Valid j                    j is within the limits, its heads never fall, all its numbers are below their counts, and its
+--                              missing records have no literals
 --   Reading                    accepted exactly where the bytes are the encoding of a valid job; and reading an encoding gives the job back
 use Prim.Native.Nat.{ℕ, _+_, _/_, _%_, _<_, _≤_}
 use mathlib.Core.List.{List, [], _∷_, _++_, flatMap, List·Memᴰ}
 use mathlib.Core.Path.{_≡_}
+use mathlib.Core.Bool.{true, cond}
 use mathlib.Core.Logic.{_↔_}
 use lib.ListN.{length}
 use Rattle.job.specs.Bytes.{Bytes}
-use Rattle.job.specs.Job.{claimOf, Rule, Job, literalCount, mostClaims, mostRules, mostLiterals, mostWorkers, mostQuestions}
+use Rattle.job.specs.Job.{claimOf, Rule, Job, literalCount, mostClaims, mostRules, mostLiterals, mostWorkers, mostQuestions, missingLength}
 use Rattle.job.specs.Format.{ruleByte, literalByte, questionByte, jobOf}
 use Rattle.job.specs.Checks.{checkJob}
 use Rattle.job.specs.declared.Literal.{Literal}
@@ -41,9 +44,12 @@ headerBytes j =
     ++ wordBytes (literalByte m 0)
     ++ wordBytes (questionByte m l 0)
 
--- "A rule is two 16-bit fields, head and body length"
+-- "A rule is two 16-bit fields, head and body length"; (02, order 2) "A rule record with body length 65,535 .. makes its head missing"
+unfoldable pub lengthOf : Rule → ℕ
+lengthOf r = cond (r .missing) missingLength (length (r .body))
+
 abbrev pub ruleBytes : Rule → List ℕ
-ruleBytes r = halfBytes (r .head) ++ halfBytes (length (r .body))
+ruleBytes r = halfBytes (r .head) ++ halfBytes (lengthOf r)
 
 -- "A literal is 16 bits: the claim, plus 32,768 if negated."
 abbrev pub fieldOf : Literal → ℕ
@@ -79,6 +85,8 @@ pub record Valid (j : Job) : Type 0 where
   pub questionsMost : length (j .questions) ≤ mostQuestions
   pub headsRise : Rising 0 (j .rules)
   pub heads : (r : Rule) → r ∈ j .rules → r .head < j .claims
+  -- (02, order 2) it "has no literals"
+  pub missing : (r : Rule) → r ∈ j .rules → r .missing ≡ true → r .body ≡ []
   pub literals : (r : Rule) → r ∈ j .rules → (l : Literal) → l ∈ r .body → claimOf l < j .claims
   pub askers : (q : Question) → q ∈ j .questions → q .worker < j .workers
   pub asked : (q : Question) → q ∈ j .questions → q .claim < j .claims

@@ -1,7 +1,9 @@
--- What the bytes s of a job mean (01, 'Job bytes').
+-- What the bytes s of a job mean (01, 'Job bytes'; 02, order 2).
 --   total s, claims s, ..        the nine words of the header
 --   ruleByte i, ..               where rule i, literal k and question q start
---   headAt s i, bodyLengthAt s i rule i
+--   headAt s i, lengthAt s i     the two fields of rule i
+--   missingAt s i                rule i is a missing record (02, order 2)
+--   bodyLengthAt s i             how many literals rule i has: a missing record has none
 --   headBefore s i               the head of the rule before i; 0 before the first
 --   bodyStart s i                the first literal of rule i, counted over all bodies
 --   literalAt s m k              literal k of a job with m rules
@@ -9,11 +11,11 @@
 --   jobOf s                      the job
 use Prim.Native.Nat.{ℕ, zero, suc, _+_, _*_, _-_}
 use mathlib.Core.List.{List}
-use mathlib.Core.Bool.{cond}
-use lib.Dec.{ltb}
+use mathlib.Core.Bool.{Bool, cond}
+use lib.Dec.{ltb, eqb}
 use Rattle.base.specs.Span.{span}
 use Rattle.job.specs.Bytes.{half, word}
-use Rattle.job.specs.Job.{Rule, Job}
+use Rattle.job.specs.Job.{Rule, Job, missingLength}
 use Rattle.job.specs.declared.Literal.{Literal}
 use Rattle.job.specs.declared.Literal.the-variants.{Plain, Negated}
 use Rattle.job.specs.declared.Question.{Question}
@@ -60,8 +62,15 @@ questionByte m l q = 36 + 4 * m + 2 * l + 4 * q
 abbrev pub headAt : List ℕ → ℕ → ℕ
 headAt s i = half s (ruleByte i)
 
-abbrev pub bodyLengthAt : List ℕ → ℕ → ℕ
-bodyLengthAt s i = half s (ruleByte i + 2)
+abbrev pub lengthAt : List ℕ → ℕ → ℕ
+lengthAt s i = half s (ruleByte i + 2)
+
+-- (02, order 2) "A rule record with body length 65,535 has no literals and makes its head missing"
+unfoldable pub missingAt : List ℕ → ℕ → Bool
+missingAt s i = eqb (lengthAt s i) missingLength
+
+unfoldable pub bodyLengthAt : List ℕ → ℕ → ℕ
+bodyLengthAt s i = cond (missingAt s i) 0 (lengthAt s i)
 
 unfoldable pub headBefore : List ℕ → ℕ → ℕ
 headBefore s zero = 0
@@ -84,7 +93,8 @@ abbrev pub questionAt : List ℕ → ℕ → ℕ → ℕ → Question
 questionAt s m l q = record { worker = half s (questionByte m l q); claim = half s (questionByte m l q + 2) }
 
 unfoldable pub ruleAt : List ℕ → ℕ → ℕ → Rule
-ruleAt s m i = record { head = headAt s i; body = span (literalAt s m) (bodyStart s i) (bodyLengthAt s i) }
+ruleAt s m i =
+    record { head = headAt s i; body = span (literalAt s m) (bodyStart s i) (bodyLengthAt s i); missing = missingAt s i }
 
 unfoldable pub jobOf : List ℕ → Job
 jobOf s =

@@ -1,17 +1,18 @@
 -- A job (01, 'Job bytes'), as values: ground rules about numbered claims, workers, and their questions.
 --   Literal           a claim, plain or negated (declared in src/lib.rt: Plain c, Negated c)
 --   claimOf l         the literal's claim
---   Rule              a head and the literals of its body
+--   Rule              a head and the literals of its body; or a missing record (02, order 2), which has a head and no literals
+--   h if b            the rule with head h and body b; missingRecord h   the missing record of h
 --   Question          a worker and the claim it asks (declared in src/lib.rt)
 --   Job               claims A, workers T, rules in file order, questions in file order
 --   literalCount j    L: the literals of all bodies
 --   literalsOf c rs   the literals of claim c over its rules in file order
 --   ruleEnd c rs k    where the rule of literal k of these ends among them
---   mostClaims, ..    the limits
+--   mostClaims, ..    the limits; missingLength   what a missing record has for a body length
 -- A claim is a ground atom; a job's rules are a ground normal logic program.
 use Prim.Native.Nat.{ℕ, _+_, _-_}
 use mathlib.Core.List.{List, [], _∷_, _++_}
-use mathlib.Core.Bool.{cond}
+use mathlib.Core.Bool.{Bool, true, false, cond}
 use lib.Dec.{eqb, ltb}
 use lib.ListN.{length}
 use Rattle.base.specs.Choose.{pick}
@@ -26,6 +27,15 @@ claimOf (Negated c) = c
 pub record Rule : Type 0 where
   pub head : ℕ
   pub body : List Literal
+  pub missing : Bool
+
+infix 5 _if_
+abbrev pub _if_ : ℕ → List Literal → Rule
+h if b = record { head = h; body = b; missing = false }
+
+-- (02, order 2) "A rule record with body length 65,535 has no literals and makes its head missing"
+abbrev pub missingRecord : ℕ → Rule
+missingRecord h = record { head = h; body = []; missing = true }
 
 pub record Job : Type 0 where
   pub claims : ℕ
@@ -66,3 +76,7 @@ mostWorkers = 32
 
 abbrev pub mostQuestions : ℕ
 mostQuestions = 1024
+
+-- (02, order 2) "body length 65,535": more than all literals of a job
+abbrev pub missingLength : ℕ
+missingLength = 65535

@@ -4,7 +4,7 @@ ghost use Prim.Native.Nat.{_+_, _≤_};
 ghost use lib.ListN.{length};
 ghost use Rattle.job.specs.Bytes.{Number};
 ghost use Rattle.job.specs.Job.{claimOf};
-ghost use Rattle.job.specs.Format.{claims, rules, literals, workers, questions, ruleByte, literalByte, questionByte, headAt, bodyLengthAt, literalOf, literalAt, questionAt};
+ghost use Rattle.job.specs.Format.{claims, rules, literals, workers, questions, ruleByte, literalByte, questionByte, headAt, missingAt, bodyLengthAt, literalOf, literalAt, questionAt};
 use crate::Literal;
 use crate::Question;
 use crate::bytes;
@@ -45,7 +45,10 @@ pub fn question_count(job: &[u8]) -> usize
     bytes::word(job, 20)
 }
 
-// Rule i: its head, and how many literals its body has.
+// The body length of a missing record, which has no literals.
+const MISSING: usize = 65535;
+
+// Rule i: its head, whether it is a missing record, and how many literals its body has.
 pub fn head_at(job: &[u8], i: usize) -> usize
     requires { ⌜ ruleByte i + 4 ≤ length (now job) ⌝ }
     ensures { λ r. ⌜ Number r (headAt (now (job .entry)) i) 65536 ⌝ }
@@ -53,11 +56,22 @@ pub fn head_at(job: &[u8], i: usize) -> usize
     bytes::half(job, 36 + 4 * i)
 }
 
+pub fn missing_at(job: &[u8], i: usize) -> bool
+    requires { ⌜ ruleByte i + 4 ≤ length (now job) ⌝ }
+    ensures { λ r. ⌜ r ≡ missingAt (now (job .entry)) i ⌝ }
+{
+    bytes::half(job, 36 + 4 * i + 2) == MISSING
+}
+
 pub fn body_length_at(job: &[u8], i: usize) -> usize
     requires { ⌜ ruleByte i + 4 ≤ length (now job) ⌝ }
     ensures { λ r. ⌜ Number r (bodyLengthAt (now (job .entry)) i) 65536 ⌝ }
 {
-    bytes::half(job, 36 + 4 * i + 2)
+    let length = bytes::half(job, 36 + 4 * i + 2);
+    if length == MISSING {
+        return 0;
+    }
+    length
 }
 
 // Literal k of a job with this many rules, counted over all bodies.

@@ -12,6 +12,7 @@ use Rattle.job.specs.Format.{jobOf}
 use Rattle.job.specs.declared.Check.the-variants.{Accepted}
 use Rattle.job.specs.declared.Question.{Question}
 use Rattle.model.specs.Model.{Verdict, True, False, Undefined, programOf, verdict}
+use Rattle.model.specs.Missing.{MissingRecords}
 use Rattle.table.specs.Questions.{claimAsked}
 use Rattle.table.specs.Layout.{mark}
 use Rattle.table.specs.Reading.{readingOf}
@@ -52,6 +53,8 @@ pub record Shows (j : Job) (t : List ℕ) : Type 0 where
   pub others : (c : ℕ) → c < j .claims → (Asked j c → ⊥) → claimLine t c ≡ unopenedLine c
   -- no claim is open at the end: each is complete or fresh
   pub settled : (c : ℕ) → c < j .claims → readingOf (mark t c) ≡ Open → ⊥
+  -- (02, order 2) these verdicts are those of the job extended for its missing records
+  pub missing : MissingRecords j
 
 pub record Told (i : List ℕ) : Type 0 where
   -- the text is never empty

@@ -13,7 +13,7 @@ use native.Mathlib.Decide.{decLt, ℕ-discrete}
 use borrow.Author.Tests.{eq-eqb, ne-eqb}
 use lib.Dec.{eqb}
 use Rattle.job.specs.Job.{Rule}
-use Rattle.model.specs.Model.{Body, bodiesOf, program, Verdict, True, False, Undefined, exchangedBodies, exchange}
+use Rattle.model.specs.Model.{Body, bodyOf, bodiesOf, program, Verdict, True, False, Undefined, exchangedBodies, exchange}
 use Rattle.model.specs.Passes.{keepOne, kept, rulesFor, rulesBelow, exchanged}
 
 cond-append : (t : Bool) (x : Body) (p q : List Body) → cond t (x ∷ p) p ++ q ≡ cond t (x ∷ (p ++ q)) (p ++ q)
@@ -23,8 +23,8 @@ cond-append false x p q = refl
 bodies-append : (a b : List Rule) (c : ℕ) → bodiesOf (a ++ b) c ≡ bodiesOf a c ++ bodiesOf b c
 bodies-append [] b c = refl
 bodies-append (r ∷ a) b c =
-    ap (λ (bs : List Body). cond (eqb (r .head) c) (r .body ∷ bs) bs) (bodies-append a b c)
-    ∙ sym (cond-append (eqb (r .head) c) (r .body) (bodiesOf a c) (bodiesOf b c))
+    ap (λ (bs : List Body). cond (eqb (r .head) c) (bodyOf r ∷ bs) bs) (bodies-append a b c)
+    ∙ sym (cond-append (eqb (r .head) c) (bodyOf r) (bodiesOf a c) (bodiesOf b c))
 
 -- what a known's rules give its own claim, and others
 own : (c : ℕ) (o : Option Verdict) → bodiesOf (rulesFor c o) c ≡ exchangedBodies c o []
@@ -68,7 +68,7 @@ left (some v) bs = []
 keep-own :
     (o : Option Verdict) (r : Rule) (ks rs : List Rule) (c : ℕ) → bodiesOf ks c ≡ left o (bodiesOf rs c)
     → bodiesOf (keepOne o r ks) c ≡ left o (bodiesOf (r ∷ rs) c)
-keep-own none r ks rs c e = ap (λ (bs : List Body). cond (eqb (r .head) c) (r .body ∷ bs) bs) e
+keep-own none r ks rs c e = ap (λ (bs : List Body). cond (eqb (r .head) c) (bodyOf r ∷ bs) bs) e
 keep-own (some v) r ks rs c e = e
 
 keep-other : (o : Option Verdict) (r : Rule) (ks : List Rule) (c : ℕ) → (r .head ≡ c → ⊥) → bodiesOf (keepOne o r ks) c ≡ bodiesOf ks c

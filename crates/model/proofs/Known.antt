@@ -16,10 +16,10 @@ use borrow.Author.Tests.{eq-eqb, ne-eqb, eqb-true, not-false}
 use lib.Dec.{T, eqb}
 use lib.ListN.{length, getD, set, List·getD-eq-default}
 use Rattle.base.specs.Sets.{Claims}
-use Rattle.job.specs.Job.{Rule}
+use Rattle.job.specs.Job.{Rule, _if_}
 use Rattle.job.specs.declared.Literal.the-variants.{Negated}
 use Rattle.job.specs.Format.{claims, jobOf}
-use Rattle.model.specs.Model.{Body, program, fires, Verdict, True, False, Undefined, verdictOf, knownOf}
+use Rattle.model.specs.Model.{Body, bodyOf, program, fires, Verdict, True, False, Undefined, verdictOf, knownOf}
 use Rattle.model.specs.Passes.{setOf, adds, Passed, keepOne, kept, rulesFor, rulesBelow, exchanged, givenProgram}
 use Rattle.model.proofs.Exchanged.{exchanged-program}
 use Rattle.model.proofs.Passes.{adds-outside, adds-there, adds-silent, adds-new}
@@ -80,11 +80,11 @@ module _ (S : Claims) (w g : List ℕ) (r : Rule) where
     pub rule-there : (getD w (r .head) 0 ≡ 0 → ⊥) → Passed S w (kept (knownOf g) (r ∷ [])) false w
     rule-there n = rule-tried unknown false (sym (adds-there S w r n))
 
-    pub rule-silent : fires S (setOf w) (r .body) ≡ false → Passed S w (kept (knownOf g) (r ∷ [])) false w
+    pub rule-silent : fires S (setOf w) (bodyOf r) ≡ false → Passed S w (kept (knownOf g) (r ∷ [])) false w
     rule-silent e = rule-tried unknown false (sym (adds-silent S w r e))
 
     pub rule-adds :
-        r .head < length w → getD w (r .head) 0 ≡ 0 → fires S (setOf w) (r .body) ≡ true
+        r .head < length w → getD w (r .head) 0 ≡ 0 → fires S (setOf w) (bodyOf r) ≡ true
         → Passed S w (kept (knownOf g) (r ∷ [])) true (set w (r .head) 1)
     rule-adds h z e = rule-tried unknown true (sym (adds-new S w r h z e))
 
@@ -97,7 +97,7 @@ module _ (S : Claims) (w : List ℕ) (x c : ℕ) where
   settle-two e = passed-none S w (rulesFor c (verdictOf x)) (ap (rulesFor c) (verdict-false x e))
 
   rule : Body → Rule
-  rule b = record { head = c; body = b }
+  rule b = c if b
 
   no-add : (x ≡ 0 → ⊥) → (x ≡ 2 → ⊥) → ((b : Body) → false ≡ adds S w (rule b)) → Passed S w (rulesFor c (verdictOf x)) false w
   unfolding rule

@@ -18,8 +18,9 @@ use Rattle.base.proofs.Bools.{is-true, and-in, and-left, and-right, neither, sa
 use Rattle.base.proofs.Sets.{count-le, count-less}
 use Rattle.job.specs.Job.{Rule}
 use Rattle.job.specs.Encoding.{_∈_}
-use Rattle.model.specs.Model.{Body, bodiesOf, Program, program, fires, anyFires, step, D}
+use Rattle.model.specs.Model.{Body, bodyOf, bodiesOf, Program, program, fires, anyFires, step, D}
 use Rattle.model.specs.Passes.{setOf, adds, tried, after, changes, Passed}
+use Rattle.model.proofs.Bodies.{bodies-in, bodies-out}
 use Rattle.model.proofs.LeastSet.{step-more, step-inside, D-closed, D-least, any-fires, any-of}
 
 -- when a rule adds its head
@@ -32,62 +33,27 @@ module _ (S : Claims) (w : List ℕ) (r : Rule) where
   unfolding adds setOf
   adds-there n = rw (ne-eqb (getD w (r .head) 0) 0 n) (and-false (ltb (r .head) (length w)))
 
-  pub adds-silent : fires S (setOf w) (r .body) ≡ false → adds S w r ≡ false
+  pub adds-silent : fires S (setOf w) (bodyOf r) ≡ false → adds S w r ≡ false
   unfolding adds
   adds-silent e = rw (e, and-false (not (setOf w (r .head)))) (and-false (ltb (r .head) (length w)))
 
-  pub adds-new : r .head < length w → getD w (r .head) 0 ≡ 0 → fires S (setOf w) (r .body) ≡ true → adds S w r ≡ true
+  pub adds-new : r .head < length w → getD w (r .head) 0 ≡ 0 → fires S (setOf w) (bodyOf r) ≡ true → adds S w r ≡ true
   unfolding adds setOf
   adds-new h e f = rw (lt-ltb (r .head) (length w) h, eq-eqb (getD w (r .head) 0) 0 e, f)
 
--- a rule of the list and its body
-RuleOf : List Rule → ℕ → Body → Type 0
-RuleOf rs c b = (r : Rule) × r ∈ rs × (r .head ≡ c) × (b ≡ r .body)
-
-skip : (t : Bool) (b x : Body) (bs : List Body) → b ∈ bs → b ∈ cond t (x ∷ bs) bs
-skip true b x bs m = List·Memᴰ·tail m
-skip false b x bs m = m
-
-bodies-in : (rs : List Rule) (r : Rule) → r ∈ rs → (r .body) ∈ bodiesOf rs (r .head)
-bodies-in [] r m = absurd (List·Memᴰ·not-nil m)
-bodies-in (x ∷ rs) r m =
-    ⊎-elim
-    (λ e.
-    let q : r .head ≡ x .head = ap (λ (y : Rule). y .head) {x = r} {y = x} e in
-    let b : r .body ≡ x .body = ap (λ (y : Rule). y .body) {x = r} {y = x} e in
-    rw (eq-eqb (x .head) (r .head) (sym q)) (List·Memᴰ·head b))
-    (λ k. skip (eqb (x .head) (r .head)) (r .body) (x .body) (bodiesOf rs (r .head)) (bodies-in rs r k))
-    (List·Memᴰ·cases-cons m)
-
-later : (x : Rule) (rs : List Rule) (c : ℕ) (b : Body) → RuleOf rs c b → RuleOf (x ∷ rs) c b
-unfolding RuleOf
-later x rs c b q = (q .0, List·Memᴰ·tail (q .1), q .2, q .3)
-
-one-out :
-    (x : Rule) (rs : List Rule) (c : ℕ) (b : Body) → (b ∈ bodiesOf rs c → RuleOf rs c b) → (t : Bool)
-    → eqb (x .head) c ≡ t → b ∈ cond t (x .body ∷ bodiesOf rs c) (bodiesOf rs c) → RuleOf (x ∷ rs) c b
-unfolding RuleOf
-one-out x rs c b rec true e m =
-    ⊎-elim (λ q. (x, List·Memᴰ·head refl, eqb-true (x .head) c e, q)) (λ k. later x rs c b (rec k)) (List·Memᴰ·cases-cons m)
-one-out x rs c b rec false e m = later x rs c b (rec m)
-
-bodies-out : (rs : List Rule) (c : ℕ) (b : Body) → b ∈ bodiesOf rs c → RuleOf rs c b
-bodies-out [] c b m = absurd (List·Memᴰ·not-nil m)
-bodies-out (x ∷ rs) c b m = one-out x rs c b (bodies-out rs c b) (eqb (x .head) c) refl m
-
 -- a step, by the rules of the list
 module _ (A : ℕ) (rs : List Rule) (S W : Claims) where
-  pub step-in : (r : Rule) → r ∈ rs → r .head < A → T (fires S W (r .body)) → T (step (program A rs) S W (r .head))
+  pub step-in : (r : Rule) → r ∈ rs → r .head < A → T (fires S W (bodyOf r)) → T (step (program A rs) S W (r .head))
   unfolding step program
   step-in r m h t =
       and-in (ltb (r .head) A) (anyFires S W (bodiesOf rs (r .head))) (lt→ltb (r .head) A h)
-      (any-of S W (bodiesOf rs (r .head)) (r .body) (bodies-in rs r m) t)
+      (any-of S W (bodiesOf rs (r .head)) (bodyOf r) (bodies-in bodyOf rs r m) t)
 
-  pub step-out : (c : ℕ) → T (step (program A rs) S W c) → (r : Rule) × r ∈ rs × (r .head ≡ c) × T (fires S W (r .body))
-  unfolding step RuleOf program
+  pub step-out : (c : ℕ) → T (step (program A rs) S W c) → (r : Rule) × r ∈ rs × (r .head ≡ c) × T (fires S W (bodyOf r))
+  unfolding step program
   step-out c t =
       let f = any-fires S W (bodiesOf rs c) (and-right (ltb c A) (anyFires S W (bodiesOf rs c)) t) in
-      let q = bodies-out rs c (f .0) (f .1) in
+      let q = bodies-out bodyOf rs c (f .0) (f .1) in
       (q .0, q .1, q .2, subst (λ (b : Body). T (fires S W b)) (q .3) (f .2))
 
 -- one byte set to 1
@@ -122,23 +88,23 @@ module _ (S : Claims) (w : List ℕ) (r : Rule) where
   adds-inside : T (adds S w r) → r .head < length w
   unfolding adds
   adds-inside t =
-      ltb→lt (r .head) (length w) (and-left (ltb (r .head) (length w)) (not (setOf w (r .head)) && fires S (setOf w) (r .body)) t)
+      ltb→lt (r .head) (length w) (and-left (ltb (r .head) (length w)) (not (setOf w (r .head)) && fires S (setOf w) (bodyOf r)) t)
 
   adds-fresh : T (adds S w r) → T (setOf w (r .head)) → ⊥
   unfolding adds
   adds-fresh t =
       T-not (setOf w (r .head))
-      (and-left (not (setOf w (r .head))) (fires S (setOf w) (r .body)) (and-right (ltb (r .head) (length w)) (not (setOf w (r .head)) && fires S (setOf w) (r .body)) t))
+      (and-left (not (setOf w (r .head))) (fires S (setOf w) (bodyOf r)) (and-right (ltb (r .head) (length w)) (not (setOf w (r .head)) && fires S (setOf w) (bodyOf r)) t))
 
-  adds-fires : T (adds S w r) → T (fires S (setOf w) (r .body))
+  adds-fires : T (adds S w r) → T (fires S (setOf w) (bodyOf r))
   unfolding adds
   adds-fires t =
-      and-right (not (setOf w (r .head))) (fires S (setOf w) (r .body))
-      (and-right (ltb (r .head) (length w)) (not (setOf w (r .head)) && fires S (setOf w) (r .body)) t)
+      and-right (not (setOf w (r .head))) (fires S (setOf w) (bodyOf r))
+      (and-right (ltb (r .head) (length w)) (not (setOf w (r .head)) && fires S (setOf w) (bodyOf r)) t)
 
-  adds-not : adds S w r ≡ false → r .head < length w → T (fires S (setOf w) (r .body)) → T (setOf w (r .head))
+  adds-not : adds S w r ≡ false → r .head < length w → T (fires S (setOf w) (bodyOf r)) → T (setOf w (r .head))
   unfolding adds
-  adds-not e h t = third (ltb (r .head) (length w)) (setOf w (r .head)) (fires S (setOf w) (r .body)) e (lt→ltb (r .head) (length w) h) t
+  adds-not e h t = third (ltb (r .head) (length w)) (setOf w (r .head)) (fires S (setOf w) (bodyOf r)) e (lt→ltb (r .head) (length w) h) t
 
   tried-length : length (tried S w r) ≡ length w
   unfolding tried
@@ -179,7 +145,7 @@ module _ (S : Claims) where
 
   after-within :
       (A : ℕ) (W : Claims) (rs : List Rule)
-      → ((r : Rule) → r ∈ rs → (X : Claims) → X ⊆ W → r .head < A → T (fires S X (r .body)) → T (W (r .head)))
+      → ((r : Rule) → r ∈ rs → (X : Claims) → X ⊆ W → r .head < A → T (fires S X (bodyOf r)) → T (W (r .head)))
       → (w : List ℕ) → length w ≡ A → setOf w ⊆ W → setOf (after S w rs) ⊆ W
   unfolding after
   after-within A W [] closed w e sub c t = sub c t

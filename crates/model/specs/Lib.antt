@@ -1,5 +1,6 @@
 pub mod Model
 pub mod Derived
+pub mod Missing
 pub mod Output
 pub mod Theorems
 pub mod Fields

@@ -9,7 +9,7 @@
 --   rulesFor c v          the rules that the known verdict of claim c stands for
 --   rulesBelow known n    those of the claims below n
 --   exchanged A known rs  the exchanged program, as a list of rules
---   ruleOf s m h k n      the rule with head h and n literals from literal k on, of a job of bytes s with m rules
+--   ruleOf s m h k n t    the rule with head h and n literals from literal k on, missing or not (t), of a job of bytes s with m rules
 --   ownRules s g          the rules of the job of bytes s, of claims whose verdict is not known by bytes g
 --   knownRules g          the rules that the verdicts known by bytes g stand for
 --   givenProgram s g      the program of the job of bytes s, exchanged by the known verdicts of bytes g
@@ -22,16 +22,16 @@ use lib.Dec.{ltb, eqb}
 use lib.ListN.{length, set, getD}
 use Rattle.base.specs.Sets.{Claims}
 use Rattle.base.specs.Span.{span}
-use Rattle.job.specs.Job.{Rule}
+use Rattle.job.specs.Job.{Rule, _if_}
 use Rattle.job.specs.Format.{literalAt, jobOf}
 use Rattle.job.specs.declared.Literal.the-variants.{Negated}
-use Rattle.model.specs.Model.{Program, programOf, fires, Verdict, True, False, Undefined, exchange, knownOf}
+use Rattle.model.specs.Model.{Program, bodyOf, programOf, fires, Verdict, True, False, Undefined, exchange, knownOf}
 
 unfoldable pub setOf : List ℕ → Claims
 setOf w c = not (eqb (getD w c 0) 0)
 
 unfoldable pub adds : Claims → List ℕ → Rule → Bool
-adds S w r = ltb (r .head) (length w) && (not (setOf w (r .head)) && fires S (setOf w) (r .body))
+adds S w r = ltb (r .head) (length w) && (not (setOf w (r .head)) && fires S (setOf w) (bodyOf r))
 
 unfoldable pub tried : Claims → List ℕ → Rule → List ℕ
 tried S w r = cond (adds S w r) (set w (r .head) 1) w
@@ -58,9 +58,9 @@ kept known (r ∷ rs) = keepOne (known (r .head)) r (kept known rs)
 
 abbrev pub rulesFor : ℕ → Option Verdict → List Rule
 rulesFor c none = []
-rulesFor c (some True) = record { head = c; body = [] } ∷ []
+rulesFor c (some True) = (c if []) ∷ []
 rulesFor c (some False) = []
-rulesFor c (some Undefined) = record { head = c; body = Negated c ∷ [] } ∷ []
+rulesFor c (some Undefined) = (c if Negated c ∷ []) ∷ []
 
 unfoldable pub rulesBelow : (ℕ → Option Verdict) → ℕ → List Rule
 rulesBelow known zero = []
@@ -69,8 +69,8 @@ rulesBelow known (suc n) = rulesFor n (known n) ++ rulesBelow known n
 abbrev pub exchanged : ℕ → (ℕ → Option Verdict) → List Rule → List Rule
 exchanged A known rs = kept known rs ++ rulesBelow known A
 
-abbrev pub ruleOf : List ℕ → ℕ → ℕ → ℕ → ℕ → Rule
-ruleOf s m h k n = record { head = h; body = span (literalAt s m) k n }
+abbrev pub ruleOf : List ℕ → ℕ → ℕ → ℕ → ℕ → Bool → Rule
+ruleOf s m h k n t = record { head = h; body = span (literalAt s m) k n; missing = t }
 
 abbrev pub ownRules : List ℕ → List ℕ → List Rule
 ownRules s g = kept (knownOf g) (jobOf s .rules)

@@ -9,7 +9,7 @@ ghost use Rattle.base.specs.Sets.{_⊆_};
 ghost use Rattle.base.specs.Span.{span};
 ghost use Rattle.job.specs.Accepted.{WellFormed};
 ghost use Rattle.job.specs.Format.{claims, literalByte, literalAt};
-ghost use Rattle.model.specs.Model.{holds, fires, D, verdictOf, knownOf};
+ghost use Rattle.model.specs.Model.{bodyOf, holds, fires, D, verdictOf, knownOf};
 ghost use Rattle.model.specs.Passes.{setOf, Passed, kept, rulesFor, ruleOf, ownRules, knownRules, givenProgram};
 use crate::FALSE;
 use crate::TRUE;
@@ -46,6 +46,26 @@ fn body_fires(job: &[u8], rules: usize, k: usize, n: usize, s: &[u8], w: &[u8]) 
     true
 }
 
+// Whether the rule with this head and n literals from literal k on fires: a missing record does where its head is not in s.
+fn rule_fires(
+    job: &[u8],
+    rules: usize,
+    head: usize,
+    k: usize,
+    n: usize,
+    missing: bool,
+    s: &[u8],
+    w: &[u8],
+) -> bool
+    requires { ⌜ literalByte rules (k + n) ≤ length (now job) ⌝ }
+    ensures { λ r. ⌜ r ≡ fires (setOf (now (s .entry))) (setOf (now (w .entry))) (bodyOf (ruleOf (now (job .entry)) rules head k n missing)) ⌝ }
+{
+    if missing {
+        return !sets::member(s, head);
+    }
+    body_fires(job, rules, k, n, s, w)
+}
+
 // Tries the rule with this head and n literals from literal k on, unless the head's verdict is known. Whether it added its head to w.
 fn try_rule(
     job: &[u8],
@@ -54,11 +74,12 @@ fn try_rule(
     head: usize,
     k: usize,
     n: usize,
+    missing: bool,
     s: &[u8],
     w: &mut [u8],
 ) -> bool
     requires { ⌜ literalByte rules (k + n) ≤ length (now job) ⌝ }
-    ensures { λ r. ⌜ Passed (setOf (now (s .entry))) (now (w .entry)) (kept (knownOf (now (known .entry))) (ruleOf (now (job .entry)) rules head k n ∷ [])) r (now (w .exit)) ⌝ }
+    ensures { λ r. ⌜ Passed (setOf (now (s .entry))) (now (w .entry)) (kept (knownOf (now (known .entry))) (ruleOf (now (job .entry)) rules head k n missing ∷ [])) r (now (w .exit)) ⌝ }
 {
     if sets::member(known, head) {
         return false;
@@ -69,7 +90,7 @@ fn try_rule(
     if w[head] != 0 {
         return false;
     }
-    if !body_fires(job, rules, k, n, s, w) {
+    if !rule_fires(job, rules, head, k, n, missing, s, w) {
         return false;
     }
     w[head] = 1;
@@ -88,7 +109,8 @@ fn pass(job: &[u8], known: &[u8], s: &[u8], w: &mut [u8]) -> bool
     while i < rules {
         let head = format::head_at(job, i);
         let n = format::body_length_at(job, i);
-        if try_rule(job, known, rules, head, k, n, s, w) {
+        let missing = format::missing_at(job, i);
+        if try_rule(job, known, rules, head, k, n, missing, s, w) {
             changed = true;
         }
         k += n;

@@ -6,7 +6,7 @@ ghost use Rattle.base.specs.Sets.{count};
 ghost use Rattle.job.specs.Accepted.{WellFormed};
 ghost use Rattle.job.specs.Format.{claims};
 ghost use Rattle.model.specs.Model.{K, U};
-ghost use Rattle.model.specs.Output.{judgedByte, judgedOutput, knownOutput, Evaluated};
+ghost use Rattle.model.specs.Output.{judgedByte, judgedOutput, knownOutput, Evaluated, KnownEvaluated};
 ghost use Rattle.model.specs.Passes.{setOf, givenProgram};
 ghost use Rattle.model.specs.Rounds.{Rising, Round};
 use crate::FALSE;
@@ -93,7 +93,7 @@ fn evaluate_in(job: &[u8], known: &[u8], k: &mut [u8], u: &mut [u8], out: &mut [
 pub fn evaluate_known(job: &[u8], known: &[u8], out: &mut [u8])
     requires { ⌜ WellFormed (now job) ⌝ }
     requires { ⌜ (length (now known) ≡ claims (now job)) × (claims (now job) ≤ length (now out)) ⌝ }
-    ensures { λ r. ⌜ now (out .exit) ≡ knownOutput (now (job .entry)) (now (known .entry)) (now (out .entry)) ⌝ }
+    ensures { λ r. ⌜ KnownEvaluated (now (job .entry)) (now (known .entry)) (now (out .entry)) (now (out .exit)) ⌝ }
 {
     let n = known.len();
     let mut k = [0u8; MOST_CLAIMS];

@@ -93,6 +93,7 @@ module _ (j : Job) where
         questionsMost = omega (arith, v .questionsMost, length-map (j .questions) by-zero);
         headsRise = v .headsRise;
         heads = v .heads;
+        missing = v .missing;
         literals = v .literals;
         askers = λ q i. zero-all (j .claims) (j .questions) (v .asked) q i .0;
         asked = λ q i. zero-all (j .claims) (j .questions) (v .asked) q i .1;

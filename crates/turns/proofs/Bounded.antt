@@ -1,9 +1,11 @@
 -- 01's worked example meets what the theorems ask: it is a valid job, and 12 rounds from a start answer both its questions. Assumes nothing.
 use mathlib.Core.Path.{_≡_, refl, sym, subst}
+use mathlib.Core.Bool.{true}
 use mathlib.Core.Logic.{⊎-elim}
 use mathlib.Core.List.{List, [], _∷_, List·Memᴰ·not-nil, List·Memᴰ·cases-cons}
 use Prim.Native.Nat.{ℕ, _<_}
 use native.Mathlib.Omega.{arith}
+use lib.Dec.{T}
 use lib.ListN.{length, replicate}
 use Rattle.base.specs.Choose.{pick}
 use Rattle.job.specs.Job.{bodyCount, claimOf, literalsOf}
@@ -42,6 +44,7 @@ two-valid =
       questionsMost = omega arith;
       headsRise = (omega arith, (omega arith, tt));
       heads = two-all (λ r. r .head < 2) _ (omega arith) _ (omega arith);
+      missing = two-all (λ r. r .missing ≡ true → r .body ≡ []) _ (λ e. absurd (subst T (sym e) tt)) _ (λ e. absurd (subst T (sym e) tt));
       literals =
           two-all (λ r. (l : Literal) → l ∈ r .body → claimOf l < 2) _ (one-all (λ l. claimOf l < 2) (Plain 1) (omega arith)) _ (one-all (λ l. claimOf l < 2) (Plain 0) (omega arith));
       askers = two-all (λ q. q .worker < 2) _ (omega arith) _ (omega arith);

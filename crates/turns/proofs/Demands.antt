@@ -5,6 +5,8 @@ use mathlib.Core.List.{List}
 use Prim.Native.Nat.{ℕ}
 use Rattle.job.specs.Checks.{checkJob}
 use Rattle.job.specs.declared.Check.the-variants.{Accepted}
+use Rattle.job.proofs.Accepted.{well-formed}
+use Rattle.model.proofs.Missing.{missing-of}
 use Rattle.turns.specs.Promise.{Promise}
 use Rattle.turns.proofs.OnLists.{answer-is, on-accepted, on-verdicts, on-values, on-holds, on-quiet, on-changes, on-rounds}
 use Rattle.turns.proofs.Named.{on-claims}
@@ -29,4 +31,5 @@ promise s e =
       quiet = λ t f xs. on-quiet s e t f xs;
       changes = λ t f xs w. on-changes s e t f xs w;
       rounds = λ t f xs r. on-rounds s e t f xs r;
+      missing = missing-of s (well-formed s e);
     }

@@ -9,7 +9,7 @@
 --   alone j         the same job with one worker, worker 0, in every question
 --   turns n         n single turns of worker 0
 --   bound j         2L + A + 3Q
---   Promise s       the demands, a field a clause
+--   Promise s       the demands, a field a clause; the model that they speak of is that of the job extended for its missing records
 use Prim.Native.Nat.{ℕ, zero, suc, _+_, _*_, _<_, _≤_}
 use mathlib.Core.Path.{_≡_}
 use mathlib.Core.List.{List, [], _∷_, _++_, map}
@@ -24,6 +24,7 @@ use Rattle.job.specs.declared.Check.the-variants.{Accepted}
 use Rattle.job.specs.declared.Literal.{Literal}
 use Rattle.job.specs.declared.Question.{Question}
 use Rattle.model.specs.Model.{programOf, False, verdict, literalVerdict, byteOf}
+use Rattle.model.specs.Missing.{MissingRecords}
 use Rattle.table.specs.Questions.{askedBy, questionClaim}
 use Rattle.table.specs.Layout.{used, mark, answered, answerWord}
 use Rattle.table.specs.Ranges.{checkTable}
@@ -136,3 +137,5 @@ pub record Promise (s : List ℕ) : Type 0 where
   pub rounds :
       (t : List ℕ) → Fresh s t → (xs : List Call) → Rounds (jobOf s .workers) (bound (jobOf s)) (turnsOf s (startWords (jobOf s) t) xs)
       → AllAnswered (jobOf s) (history s t xs)
+  -- (02, order 2) "The model, completion and plain evaluation all follow this, and agreement with the 1991 model is then with the job so extended."
+  pub missing : MissingRecords (jobOf s)

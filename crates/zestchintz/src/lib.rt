@@ -4,7 +4,7 @@ ghost use mathlib.Core.Path.{_≡_};
 ghost use lib.ListN.{length};
 ghost use Rattle.job.specs.Format.{claims};
 ghost use Rattle.job.specs.Checks.{checkJob};
-ghost use Rattle.model.specs.Output.{checkPlain, outputOf};
+ghost use Rattle.model.specs.Output.{checkPlain, Evaluated};
 ghost use Rattle.zestchintz.specs.Code.{refusalCode, codeOf, Told, Answered};
 use job::Check;
 
@@ -42,7 +42,7 @@ pub extern "C" fn zestchintz_check(job: &[u8]) -> u64
 #[no_mangle]
 pub extern "C" fn zestchintz_evaluate(job: &[u8], verdicts: &mut [u8]) -> u64
     ensures { λ r. ⌜ r ≡ codeOf (claims (now (job .entry))) (checkPlain (now (job .entry)) (length (now (verdicts .entry)))) ⌝ }
-    ensures { λ r. ⌜ now (verdicts .exit) ≡ outputOf (checkPlain (now (job .entry)) (length (now (verdicts .entry)))) (now (job .entry)) (now (verdicts .entry)) ⌝ }
+    ensures { λ r. ⌜ Evaluated (now (job .entry)) (now (verdicts .entry)) (checkPlain (now (job .entry)) (length (now (verdicts .entry)))) (now (verdicts .exit)) ⌝ }
 {
     code_of(job, model::evaluate::evaluate(job, verdicts))
 }

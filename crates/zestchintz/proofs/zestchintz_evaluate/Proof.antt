@@ -1,16 +1,21 @@
 -- `zestchintz::zestchintz_evaluate` meets its contract. Assumes nothing.
-use Prim.Native.Nat.{_<_}
-use mathlib.Core.Path.{_∙_, ap, subst⁻¹}
+use Prim.Native.Nat.{ℕ, _<_}
+use mathlib.Core.Path.{_≡_, _∙_, ap, subst, subst⁻¹}
+use mathlib.Core.List.{List}
 use native.Mathlib.Omega.{arith}
 use borrow.Author.Needs.{needs}
 use lib.ListN.{length}
 use Rattle.job.specs.Format.{claims}
 use Rattle.job.specs.declared.Check.{Check}
-use Rattle.model.specs.Output.{outputOf}
+use Rattle.model.specs.Output.{Evaluated}
 use Rattle.zestchintz.proofs.Answers.{plain-answered}
 use Rattle.zestchintz.specs.Code.{codeOf, Answered}
 use Rattle.zestchintz.proofs.zestchintz_evaluate.Statement.{statement}
 use Rattle.zestchintz.proofs.zestchintz_evaluate.Tie as tie
+
+-- by the answer that is meant
+evaluated-as : (s before o : List ℕ) (r r′ : Check) → r ≡ r′ → Evaluated s before r o → Evaluated s before r′ o
+evaluated-as s before o r r′ e x = subst (λ (y : Check). Evaluated s before y o) e x
 
 evaluate-requires : tie.Need-evaluate-requires
 evaluate-requires c κs = search needs
@@ -28,7 +33,7 @@ returns : tie.Need-returns
 returns c =
     let e = c .before .before .before .evaluate .ensures in
     let s = c .before .before .before .before .before .before .before .args .job .now in
-    (c .code-of .ensures ∙ ap (codeOf (claims s)) (e .check), e .output ∙ ap (λ (r : Check). outputOf r s (c .before .before .before .before .before .before .before .args .verdicts .now)) (e .check))
+    (c .code-of .ensures ∙ ap (codeOf (claims s)) (e .check), evaluated-as _ _ _ _ _ (e .check) e)
 
 pub zestchintz-evaluate-spec : {M : Type 1} → statement M
 zestchintz-evaluate-spec =

@@ -24,8 +24,8 @@ returns-3 c =
     rule-there _ _ _ _ (sym (c .before .before .before .before .member .ensures) ∙ c .before .before .before .if1 .left)
     (c .if3 .taken)
 
-body-fires-requires : tie.Need-body-fires-requires
-body-fires-requires c κs = c .before .before .before .before .before .before .before .before .before .before .pre
+rule-fires-requires : tie.Need-rule-fires-requires
+rule-fires-requires c κs = c .before .before .before .before .before .before .before .before .before .before .pre
 
 same-length : tie.Need-same-length
 same-length c = search needs
@@ -34,7 +34,7 @@ returns-4 : tie.Need-returns-4
 returns-4 c =
     rule-silent _ _ _ _
     (sym (c .before .before .before .before .before .before .before .member .ensures) ∙ c .before .before .before .before .before .before .if1 .left)
-    (sym (c .before .body-fires .ensures) ∙ not-true _ (c .if4 .taken))
+    (sym (c .before .rule-fires .ensures) ∙ not-true _ (c .if4 .taken))
 
 slice-write-w : tie.Need-slice-write-w
 slice-write-w c = omega arith
@@ -47,7 +47,7 @@ returns-5 c =
     rule-adds _ _ _ _
     (sym (c .before .before .before .before .before .before .before .member .ensures) ∙ c .before .before .before .before .before .before .if1 .left)
     (omega arith) (omega arith)
-    (sym (c .before .body-fires .ensures) ∙ not-false _ (c .if4 .left))
+    (sym (c .before .rule-fires .ensures) ∙ not-false _ (c .if4 .left))
 
 pub try-rule-spec : {M : Type 1} → statement M
 try-rule-spec =
@@ -58,7 +58,7 @@ try-rule-spec =
     returns-2
     slice-read-if3
     returns-3
-    body-fires-requires
+    rule-fires-requires
     same-length
     returns-4
     slice-write-w

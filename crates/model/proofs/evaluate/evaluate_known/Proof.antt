@@ -3,6 +3,7 @@ use mathlib.Core.Path.{sym, _∙_}
 use borrow.Author.Needs.{needs}
 use lib.Seq.{length-take-le}
 use Rattle.model.proofs.Rules.{fits-claims}
+use Rattle.model.proofs.Plain.{known-done}
 use Rattle.model.proofs.evaluate.evaluate_known.Statement.{statement}
 use Rattle.model.proofs.evaluate.evaluate_known.Tie as tie
 
@@ -32,7 +33,10 @@ same-length : tie.Need-same-length
 same-length c = search needs
 
 returns : tie.Need-returns
-returns c = search needs
+returns c =
+    let c₁ = c .before .before .before .before in
+    let start = c₁ .before .before .before .before .before .before .before .pre in
+    known-done _ _ _ _ (start .0) (start .1 .0) (c₁ .evaluate-in .ensures)
 
 pub evaluate-known-spec : {M : Type 1} → statement M
 evaluate-known-spec =
