@@ -37,6 +37,13 @@ extern "C" {
 #define ZESTCHINTZ_MAX_CLAIMS 4096
 #define ZESTCHINTZ_MAX_JOB_LENGTH 61476
 
+/*
+ * The body length of a rule record that has no literals and says: nobody
+ * measured this.  Its claim is then not false: true by a rule that holds,
+ * else undefined.
+ */
+#define ZESTCHINTZ_MISSING 65535
+
 /* The bytes that stand for the verdicts. */
 #define ZESTCHINTZ_TRUE 1
 #define ZESTCHINTZ_FALSE 2
