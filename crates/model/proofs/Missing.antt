@@ -85,7 +85,7 @@ unfolding program
 noneMissing j h = ap (λ (f : ℕ → List Body). record { claims = j .claims; bodies = f }) (fun-ext (λ c. plain-bodies (j .rules) c h))
 
 pub missingRecords : (j : Job) → Valid j → MissingRecords j
-missingRecords j v = record { extension = extension j v; claims = missingClaims j; unchanged = noneMissing j }
+missingRecords j v = record { noLiterals = v .missing; extension = extension j v; claims = missingClaims j; unchanged = noneMissing j }
 
 -- of the job of accepted bytes
 pub missing-of : (s : List ℕ) → WellFormed s → MissingRecords (jobOf s)

@@ -70,6 +70,8 @@ abbrev pub NoneMissing : Job → Type 0
 NoneMissing j = ((r : Rule) → r ∈ j .rules → r .missing ≡ false) → programOf j ≡ asWritten j
 
 pub record MissingRecords (j : Job) : Type 0 where
+  -- "has no literals": so it has no place in a cursor, costs no turn and leads nowhere
+  pub noLiterals : (r : Rule) → r ∈ j .rules → r .missing ≡ true → r .body ≡ []
   pub extension : Extension j
   pub claims : MissingClaims j
   pub unchanged : NoneMissing j

@@ -9,6 +9,7 @@
 --   alone j         the same job with one worker, worker 0, in every question
 --   turns n         n single turns of worker 0
 --   bound j         2L + A + 3Q
+--   extendedMark    the mark that completion gives, by the job extended for its missing records
 --   Promise s       the demands, a field a clause; the model that they speak of is that of the job extended for its missing records
 use Prim.Native.Nat.{ℕ, zero, suc, _+_, _*_, _<_, _≤_}
 use mathlib.Core.Path.{_≡_}
@@ -23,15 +24,15 @@ use Rattle.job.specs.Checks.{checkJob}
 use Rattle.job.specs.declared.Check.the-variants.{Accepted}
 use Rattle.job.specs.declared.Literal.{Literal}
 use Rattle.job.specs.declared.Question.{Question}
-use Rattle.model.specs.Model.{programOf, False, verdict, literalVerdict, byteOf}
-use Rattle.model.specs.Missing.{MissingRecords}
+use Rattle.model.specs.Model.{programOf, False, verdict, literalVerdict, byteOf, exchange, knownOf}
+use Rattle.model.specs.Missing.{extended, asWritten, MissingRecords}
 use Rattle.table.specs.Questions.{askedBy, questionClaim}
-use Rattle.table.specs.Layout.{used, mark, answered, answerWord}
+use Rattle.table.specs.Layout.{used, mark, answered, answerWord, markOf, values}
 use Rattle.table.specs.Ranges.{checkTable}
 use Rattle.table.specs.Start.{startWords}
 use Rattle.table.specs.Reading.{readingOf, readingValue}
 use Rattle.waiting.specs.Runs.{Rounds}
-use Rattle.turns.specs.Turn.{lits, turn}
+use Rattle.turns.specs.Turn.{lits, completedMark, turn}
 use Rattle.turns.specs.declared.Kind.the-variants.{Idle}
 use Rattle.turns.specs.Lists.{Call, turning, after, turnsOf, Event, events, IsAnswered, answerOf, AllAnswered, Complete}
 
@@ -84,6 +85,10 @@ turns (suc n) = turning 0 ∷ turns n
 
 abbrev pub bound : Job → ℕ
 bound j = 2 * literalCount j + j .claims + 3 * length (j .questions)
+
+-- (02, order 2) the mark that completion gives, by the job extended for its missing records
+abbrev pub extendedMark : Job → List ℕ → ℕ → ℕ
+extendedMark j t c = markOf (verdict (exchange (knownOf (values j t)) (asWritten (extended j))) c)
 
 pub record Promise (s : List ℕ) : Type 0 where
   -- demand 2: "a complete claim is marked true, false or undefined exactly as it is in the well-founded model of the whole job"
@@ -139,3 +144,5 @@ pub record Promise (s : List ℕ) : Type 0 where
       → AllAnswered (jobOf s) (history s t xs)
   -- (02, order 2) "The model, completion and plain evaluation all follow this, and agreement with the 1991 model is then with the job so extended."
   pub missing : MissingRecords (jobOf s)
+  -- what a turn completes, on every table, also one that no run made
+  pub completion : (t : List ℕ) (c : ℕ) → c < jobOf s .claims → completedMark (jobOf s) t c ≡ extendedMark (jobOf s) t c
