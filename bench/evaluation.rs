@@ -1,6 +1,8 @@
 //! Times plain evaluation on 50 made fields: the library, the oracle and
 //! SWI-Prolog, one after the other on the same job.  bench/run builds it.
 
+#[allow(dead_code)]
+mod fields;
 #[path = "../tests/compare/library.rs"]
 #[allow(dead_code)]
 mod library;
@@ -9,29 +11,13 @@ mod prolog;
 mod times;
 mod worst;
 
-use oracle::checks::{part_input, Job};
-use oracle::jobs::generate;
+use fields::{evaluated_fields, job_of};
 use oracle::model::{well_founded, Program};
 use times::{median_times, ratio, show_spread};
 
-/// Kinds and the seeds of their fields.  The large ones are of all eight shapes.
-const FIELDS: [(&str, &[u64]); 11] = [
-    ("tiny", &[1, 2, 3]),
-    ("small", &[1, 2, 3]),
-    ("ring", &[1, 2, 3, 4, 5]),
-    ("negloop", &[1, 2, 3, 4, 5]),
-    ("chain", &[1, 2, 3, 4, 5]),
-    ("strat", &[1, 2, 3, 4, 5]),
-    ("random", &[1, 2, 3, 4, 5]),
-    ("cluster", &[1, 2, 3, 4, 5]),
-    ("tower", &[1, 2, 3, 4]),
-    ("large", &[0, 1, 2, 3, 10, 4, 5, 6]),
-    ("empty", &[1, 2]),
-];
-
 /// The oracle's check and evaluation, with the library's way of answering.
 fn oracle_evaluate(bytes: &[u8], verdicts: &mut [u8]) -> usize {
-    let job = Job::check(bytes).expect("a made field is accepted");
+    let job = job_of(bytes);
     for (byte, verdict) in verdicts.iter_mut().zip(well_founded(&Program::of_job(&job))) {
         *byte = verdict as u8;
     }
@@ -49,7 +35,7 @@ struct Row {
 }
 
 fn measure(kind: &'static str, seed: u64, bytes: &[u8]) -> Row {
-    let job = Job::check(bytes).expect("a made field is accepted");
+    let job = job_of(bytes);
     let (mut expected, mut verdicts) = ([0; 4096], [0; 4096]);
     let [oracle, ours] = median_times([
         &mut || _ = oracle_evaluate(bytes, &mut expected),
@@ -86,16 +72,12 @@ fn show_summary(rows: &[Row]) {
     println!("all fields once: ours {:.2} s, oracle {:.2} s", sum(|row| row.ours), sum(|row| row.oracle));
 }
 
-/// The 50 made fields.
 fn measure_made() -> Vec<Row> {
     let mut rows = Vec::new();
-    for (kind, seeds) in FIELDS {
-        for &seed in seeds {
-            let input = generate(kind, seed).expect("the kind is known");
-            let row = measure(kind, seed, part_input(&input).0);
-            show(&row);
-            rows.push(row);
-        }
+    for (kind, seed, job) in evaluated_fields() {
+        let row = measure(kind, seed, &job);
+        show(&row);
+        rows.push(row);
     }
     rows
 }

@@ -2,14 +2,16 @@
 //! library's and the oracle's by the text, checks included.  bench/run builds
 //! it.  `single times` prints the library's alone, for bench/before.
 
+#[allow(dead_code)]
+mod fields;
 #[path = "../tests/table/library.rs"]
 #[allow(dead_code)]
 mod library;
 #[allow(dead_code)]
 mod times;
 
+use fields::{job_of, made};
 use oracle::checks::{part_input, Job};
-use oracle::jobs::generate;
 use oracle::orders::{Orders, Skip};
 use oracle::table::Table;
 use oracle::turns::{run_listing, Kind};
@@ -43,8 +45,8 @@ impl Sampled {
     /// every library is lent the same tables.
     fn of(job: &Job, schedule: &[u8]) -> Sampled {
         let mut sampled = Sampled { seen: [0; 8], tables: Default::default() };
-        let mut before = Table::start(job, Orders::up_to(0), true).words;
-        run_listing(job, Orders::up_to(0), schedule, false, |table, worker, kind| {
+        let mut before = Table::start(job, Orders::of(&[]), true).words;
+        run_listing(job, Orders::of(&[]), schedule, false, |table, worker, kind| {
             sampled.seen[kind as usize] += 1;
             if sampled.seen[kind as usize].is_power_of_two() {
                 sampled.tables[kind as usize].push((worker, before.clone()));
@@ -61,24 +63,24 @@ impl Sampled {
     fn case(&self, job: &Job, kind: Kind) -> Option<Case> {
         let tables: Vec<&(u32, Vec<u32>)> = self.tables[kind as usize]
             .iter()
-            .filter(|(worker, words)| turn_on(job, 0, words, *worker) == turn_on(job, 5, words, *worker))
+            .filter(|(worker, words)| turn_on(job, &[], words, *worker) == turn_on(job, &[5], words, *worker))
             .collect();
         let (worker, words) = tables.get(tables.len() * 2 / 3)?;
         Some(Case { name: kind.name(), call: Call::Turn(*worker), words: words.clone() })
     }
 }
 
-/// What a turn gives by the text under the orders up to this one.
-fn turn_on(job: &Job, order: u32, words: &[u32], worker: u32) -> (Kind, Vec<u32>) {
-    let mut table = Table::from_words(job, Orders::up_to(order), words.to_vec()).expect("turns made the table");
+/// What a turn gives by the text under these orders.
+fn turn_on(job: &Job, orders: &[u32], words: &[u32], worker: u32) -> (Kind, Vec<u32>) {
+    let mut table = Table::from_words(job, Orders::of(orders), words.to_vec()).expect("turns made the table");
     (table.turn(worker), table.words)
 }
 
 /// A table on which a worker's turn passes the rest of a failed rule.
 fn skip_case(job: &Job, schedule: &[u8]) -> Option<Case> {
     let mut cases = Vec::new();
-    let mut before = Table::start(job, Orders::up_to(5), true);
-    run_listing(job, Orders::up_to(5), schedule, false, |table, worker, kind| {
+    let mut before = Table::start(job, Orders::of(&[5]), true);
+    run_listing(job, Orders::of(&[5]), schedule, false, |table, worker, kind| {
         if kind == Kind::Passed && cases.len() < 8 && oracle::explore::skipped(&before, table) {
             cases.push((worker, before.words.clone()));
         }
@@ -118,7 +120,7 @@ fn call_ours(call: Call, job: &[u8], words: &mut [u32]) -> u64 {
 
 /// The oracle's call with all its checks; the code as the library gives it.
 fn call_oracle(call: Call, bytes: &[u8], words: &mut [u32]) -> u64 {
-    let job = Job::check(bytes).expect("a made field is accepted");
+    let job = job_of(bytes);
     if let Call::Start = call {
         words.copy_from_slice(&Table::start(&job, Orders::in_force(), true).words);
         return 0;
@@ -145,9 +147,9 @@ fn expect_equal(name: &str, case: &Case, bytes: &[u8]) {
 }
 
 fn measure(kind: &str, seed: u64, times_only: bool) -> Vec<f64> {
-    let input = generate(kind, seed).expect("the kind is known");
+    let input = made(kind, seed);
     let (bytes, schedule) = part_input(&input);
-    let job = Job::check(bytes).expect("a made field is accepted");
+    let job = job_of(bytes);
     let mut ratios = Vec::new();
     for case in cases_of(&job, schedule) {
         let (name, call) = (format!("{kind} {seed}"), case.call);

@@ -25,6 +25,19 @@ pub fn median_times<const N: usize>(mut calls: [&mut dyn FnMut(); N]) -> [f64; N
     times.map(median)
 }
 
+/// The same for calls that may be shorter than the clock can tell: each time is
+/// that of as many calls as take some 20 microseconds.
+pub fn median_times_of<const N: usize>(calls: [&mut dyn FnMut(); N]) -> [f64; N] {
+    const LONG: f64 = 20e-6;
+    let mut often = 1;
+    let mut calls = calls;
+    while often < 1 << 10 && time(&mut || (0..often).for_each(|_| calls[0]())) < LONG {
+        often *= 2;
+    }
+    let mut many = calls.map(|call| move || (0..often).for_each(|_| call()));
+    median_times(many.each_mut().map(|call| call as &mut dyn FnMut())).map(|seconds| seconds / f64::from(often))
+}
+
 /// The same for calls on words that are put back before each.
 pub fn median_times_on<const N: usize>(words: &[u32], mut calls: [&mut dyn FnMut(&mut [u32]); N]) -> [f64; N] {
     let start = Instant::now();

@@ -2,14 +2,16 @@
 //! the other on the same job, schedule and table.  bench/run builds it; kinds
 //! may be named.  `turns times` prints the library's alone, for bench/before.
 
+#[allow(dead_code)]
+mod fields;
 #[path = "../tests/table/library.rs"]
 #[allow(dead_code)]
 mod library;
 #[allow(dead_code)]
 mod times;
 
+use fields::{job_of, made};
 use oracle::checks::{part_input, Job};
-use oracle::jobs::generate;
 use oracle::orders::Orders;
 use oracle::table::{Layout, Table};
 use oracle::turns::run_listing;
@@ -47,9 +49,9 @@ fn whole_schedule(job: &Job, made: &[u8]) -> Vec<u8> {
 }
 
 fn make_field(kind: &'static str, seed: u64) -> Field {
-    let input = generate(kind, seed).expect("the kind is known");
+    let input = made(kind, seed);
     let (bytes, made) = part_input(&input);
-    let job = Job::check(bytes).expect("a made field is accepted");
+    let job = job_of(bytes);
     Field { kind, seed, bytes: bytes.to_vec(), schedule: whole_schedule(&job, made) }
 }
 
@@ -64,7 +66,7 @@ fn run_ours(field: &Field, words: &mut [u32]) -> [u64; 8] {
 /// The oracle checks the job, starts a table, makes the turns and lays the
 /// words where the library does; by the text, or with shortcuts.
 fn run_oracle(field: &Field, by_text: bool, words: &mut [u32]) -> [u64; 8] {
-    let job = Job::check(&field.bytes).expect("a made field is accepted");
+    let job = job_of(&field.bytes);
     let mut table = Table::start(&job, Orders::in_force(), by_text);
     let mut tally = [0; 8];
     for &worker in &field.schedule {
@@ -84,7 +86,7 @@ struct Row {
 
 /// The library's seconds alone, and how many turns changed something.
 fn print_times(field: &Field) {
-    let job = Job::check(&field.bytes).expect("a made field is accepted");
+    let job = job_of(&field.bytes);
     let mut words = vec![0; Layout::of_job(&job).used];
     let tally = run_ours(field, &mut words);
     let [ours] = median_times([&mut || _ = run_ours(field, &mut words)]);
@@ -92,7 +94,7 @@ fn print_times(field: &Field) {
 }
 
 fn measure(field: &Field) -> Row {
-    let job = Job::check(&field.bytes).expect("a made field is accepted");
+    let job = job_of(&field.bytes);
     let mut words = vec![0; Layout::of_job(&job).used];
     let tally = run_ours(field, &mut words);
     let made = words.clone();

@@ -3,8 +3,12 @@
 use std::hint::black_box;
 
 use oracle::checks::{Job, Refusal};
-use oracle::model::{well_founded, Program};
+use oracle::missing_sorts::{count_model, Met, SORTS};
+use oracle::model::{well_founded, Program, Verdict};
+use oracle::orders::{Missing, Orders, MISREADINGS};
+use oracle::readings::evaluation_shows;
 
+use crate::counts::{add, listed, unmet};
 use crate::library;
 
 /// At most this many differences are printed.
@@ -21,6 +25,11 @@ pub struct Totals {
     pub accepted: usize,
     pub refused: [usize; 14],
     pub verdicts: [usize; 4],
+    /// Accepted jobs with missing records, and their claims by sort.
+    pub missing_jobs: usize,
+    pub missing: Met,
+    /// Jobs that wrong readings of order 2 would refuse or give other verdicts.
+    pub misread: [usize; 4],
     pub differences: usize,
 }
 
@@ -51,17 +60,15 @@ impl Totals {
     pub fn compare(&mut self, name: &str, bytes: &[u8]) {
         self.jobs += 1;
         let kept = bytes.to_vec();
-        let job = Job::check(bytes);
+        let job = Job::check(bytes, Orders::in_force());
         let checked = job.as_ref().map(|job| job.claims).map_err(|&refusal| refusal);
         self.count(&checked);
         self.expect(name, "check", code_of(&checked), library::check_code(bytes));
-        let values: Vec<u8> = match &job {
-            Ok(job) => well_founded(&Program::of_job(job)).iter().map(|&verdict| verdict as u8).collect(),
-            Err(_) => Vec::new(),
-        };
-        for &value in &values {
-            self.verdicts[usize::from(value)] += 1;
+        let model = job.as_ref().map_or(Vec::new(), |job| well_founded(&Program::of_job(job)));
+        if let Ok(job) = &job {
+            self.count_verdicts(bytes, job, &model);
         }
+        let values: Vec<u8> = model.iter().map(|&verdict| verdict as u8).collect();
         let lengths = if job.is_ok() { interesting_lengths(values.len()) } else { vec![0, 50] };
         for length in lengths {
             self.compare_output(name, bytes, &checked, &values, length);
@@ -120,11 +127,21 @@ impl Totals {
         self.calls += other.calls;
         self.accepted += other.accepted;
         self.differences += other.differences;
-        for (sum, count) in self.refused.iter_mut().zip(other.refused) {
-            *sum += count;
-        }
-        for (sum, count) in self.verdicts.iter_mut().zip(other.verdicts) {
-            *sum += count;
+        self.missing_jobs += other.missing_jobs;
+        add(&mut self.refused, &other.refused);
+        add(&mut self.verdicts, &other.verdicts);
+        add(&mut self.missing, &other.missing);
+        add(&mut self.misread, &other.misread);
+    }
+
+    /// Under order 2 the gate must meet every sort of claim with a missing record,
+    /// and jobs that show each wrong reading.
+    pub fn expect_all_met(&mut self) {
+        if Orders::in_force().missing != Missing::Off {
+            let readings = MISREADINGS.map(|(name, _)| name);
+            for name in [unmet(&SORTS, &self.missing), unmet(&readings, &self.misread)].concat() {
+                self.differ("the gate", &format!("{name}: never met"));
+            }
         }
     }
 
@@ -133,10 +150,25 @@ impl Totals {
         let rows: Vec<String> = (1..=8).map(|number| format!("{number}: {}", self.refused[number])).collect();
         println!("refused by number {}", rows.join(", "));
         println!("verdicts true {}, false {}, undefined {}", self.verdicts[1], self.verdicts[2], self.verdicts[3]);
+        println!("{} jobs with missing records: {}", self.missing_jobs, listed(&SORTS, &self.missing));
+        println!("wrong readings shown: {}", listed(&MISREADINGS.map(|(name, _)| name), &self.misread));
         if self.differences > 0 {
             println!("a made job alone: compare made KIND SEED 1");
         }
         println!("{} jobs in {} calls compared, {} differences", self.jobs, self.calls, self.differences);
+    }
+
+    fn count_verdicts(&mut self, bytes: &[u8], job: &Job, model: &[Verdict]) {
+        for &verdict in model {
+            self.verdicts[verdict as usize] += 1;
+        }
+        if job.missing_records() > 0 {
+            self.missing_jobs += 1;
+            count_model(job, model, &mut self.missing);
+            for (count, (_, missing)) in self.misread.iter_mut().zip(MISREADINGS) {
+                *count += usize::from(evaluation_shows(bytes, model, Orders { missing, ..Orders::in_force() }));
+            }
+        }
     }
 
     fn count(&mut self, checked: &Result<usize, Refusal>) {

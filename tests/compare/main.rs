@@ -3,6 +3,7 @@
 
 mod arguments;
 mod compare;
+mod counts;
 mod faults;
 mod lengths;
 mod library;
@@ -14,9 +15,11 @@ use std::time::Instant;
 
 use arguments::{kinds_named, refuse};
 use compare::Totals;
+use counts::missing_unmet;
 use oracle::checks::{part_input, MAX_INPUT_BYTES};
 use oracle::edges::{edge_cases, Expected};
 use oracle::jobs::generate;
+use oracle::orders::Orders;
 
 const USAGE: &str = "\
 compare                          all that the gate runs
@@ -57,7 +60,7 @@ fn compare_input(totals: &mut Totals, name: &str, input: &[u8]) {
 
 /// The edge cases, beside the oracle and beside what is written down for each.
 fn compare_edges(totals: &mut Totals) {
-    for (seed, edge) in edge_cases().iter().enumerate() {
+    for (seed, edge) in edge_cases(Orders::in_force()).iter().enumerate() {
         let name = format!("edge {seed} ({})", edge.name);
         compare_input(totals, &name, &edge.bytes);
         let checked = library::check(part_input(&edge.bytes).0);
@@ -76,7 +79,7 @@ fn compare_edges(totals: &mut Totals) {
 
 fn compare_made(totals: &mut Totals, kind: &str, from: u64, count: u64) {
     for seed in from..from + count {
-        let Some(input) = generate(kind, seed) else {
+        let Some(input) = generate(kind, seed, Orders::in_force()) else {
             eprintln!("compare: no kind is called {kind}");
             exit(2);
         };
@@ -85,19 +88,21 @@ fn compare_made(totals: &mut Totals, kind: &str, from: u64, count: u64) {
 }
 
 /// Runs one part and says what it compared.
-fn part(all: &mut Totals, title: &str, work: impl FnOnce(&mut Totals)) {
+fn part(all: &mut Totals, title: &str, work: impl FnOnce(&mut Totals)) -> Totals {
     let start = Instant::now();
     let mut totals = Totals::default();
     work(&mut totals);
     println!(
-        "{title}: {} jobs, {} accepted, {} refused, {} differences, {:.1} s",
+        "{title}: {} jobs, {} accepted, {} with missing records, {} refused, {} differences, {:.1} s",
         totals.jobs,
         totals.accepted,
+        totals.missing_jobs,
         totals.jobs - totals.accepted,
         totals.differences,
         start.elapsed().as_secs_f64()
     );
     all.add(&totals);
+    totals
 }
 
 fn compare_gate(all: &mut Totals) {
@@ -107,8 +112,12 @@ fn compare_gate(all: &mut Totals) {
     part(all, "long jobs", lengths::long_jobs);
     part(all, "long outputs", lengths::long_outputs);
     for (kind, count) in GATE {
-        part(all, kind, |totals| compare_made(totals, kind, 0, count));
+        let made = part(all, kind, |totals| compare_made(totals, kind, 0, count));
+        if let Some(fault) = missing_unmet(kind, made.accepted, made.missing_jobs) {
+            all.differ("the gate", &fault);
+        }
     }
+    all.expect_all_met();
 }
 
 /// Prints the library's verdicts of the job on standard input; a schedule
@@ -136,7 +145,7 @@ fn main() {
     let mut all = Totals::default();
     match words.as_slice() {
         [] => compare_gate(&mut all),
-        ["edges"] => part(&mut all, "edges", compare_edges),
+        ["edges"] => _ = part(&mut all, "edges", compare_edges),
         ["faults"] => {
             part(&mut all, "single faults", faults::single_faults);
             part(&mut all, "double faults", faults::double_faults);

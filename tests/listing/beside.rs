@@ -35,7 +35,7 @@ pub fn compare(totals: &mut Totals, program: &Program, name: &str, input: &[u8],
 
 /// How many steps an input takes, by its listing.
 fn takes(input: &[u8], listing: &str) -> u64 {
-    match (read_input(input), tally_of(listing)) {
+    match (read_input(input, Orders::in_force()), tally_of(listing)) {
         (Ok((job, _)), Some(tally)) => steps(&job, &tally),
         _ => 0,
     }

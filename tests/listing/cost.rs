@@ -37,7 +37,8 @@ fn passes(job: &Job) -> u64 {
 }
 
 /// D of `given`, from the claims of it that `set` has already: passes in file
-/// order until one adds nothing.  Answers how many.
+/// order until one adds nothing.  A missing record adds its head where `given`
+/// hasn't it.  Answers how many.
 fn grow(job: &Job, given: &[bool], set: &mut [bool]) -> u64 {
     let mut count = 0;
     loop {
@@ -45,7 +46,9 @@ fn grow(job: &Job, given: &[bool], set: &mut [bool]) -> u64 {
         let mut added = false;
         for rule in &job.rules {
             let holds = |claim: u32, negated| if negated { !given[claim as usize] } else { set[claim as usize] };
-            if !set[rule.head as usize] && job.body(rule).iter().all(|literal| holds(literal.claim, literal.negated)) {
+            let body_holds = job.body(rule).iter().all(|literal| holds(literal.claim, literal.negated));
+            let founded = body_holds && !(rule.missing && given[rule.head as usize]);
+            if !set[rule.head as usize] && founded {
                 set[rule.head as usize] = true;
                 added = true;
             }

@@ -6,22 +6,24 @@ use oracle::damage::{put_half, put_word};
 use oracle::draft::{Draft, Random};
 use oracle::failing::make_failing;
 use oracle::jobs::{generate, make_cluster, make_negloop, make_ring, make_small, make_tiny, make_tower};
+use oracle::missing_jobs::add_missing;
+use oracle::orders::Orders;
 
 /// The input of a kind and seed; none where no kind is called so.
 pub fn made(kind: &str, seed: u64) -> Option<Vec<u8>> {
     let random = &mut Random::new(kind, seed);
     match kind {
-        "long" => Some(make_long(random)),
-        "cut" => Some(make_cut(random)),
-        "turns" => Some(make_turns(random)),
+        "long" => Some(make_long(random, seed)),
+        "cut" => Some(make_cut(random, seed)),
+        "turns" => Some(make_turns(random, seed)),
         "bytes" => Some(make_bytes(random)),
-        "fields" => Some(make_fields(random)),
-        _ => generate(kind, seed),
+        "fields" => Some(make_fields(random, seed)),
+        _ => generate(kind, seed, Orders::in_force()),
     }
 }
 
-fn make_any(random: &mut Random) -> Draft {
-    match random.below(9) {
+fn make_any(random: &mut Random, seed: u64) -> Draft {
+    let mut draft = match random.below(9) {
         0 => make_negloop(random),
         1 => make_ring(random),
         2 => make_cluster(random),
@@ -29,13 +31,16 @@ fn make_any(random: &mut Random) -> Draft {
         4 => make_failing(random, 40),
         5 | 6 => make_tiny(random),
         _ => make_small(random),
-    }
+    };
+    add_missing(&mut draft, seed, Orders::in_force());
+    draft
 }
 
 /// A small job with turns up to a length around the most that is read; now and
 /// then its first word says another length near a limit.
-fn make_long(random: &mut Random) -> Vec<u8> {
-    let draft = if random.percent(50) { make_tiny(random) } else { make_small(random) };
+fn make_long(random: &mut Random, seed: u64) -> Vec<u8> {
+    let mut draft = if random.percent(50) { make_tiny(random) } else { make_small(random) };
+    add_missing(&mut draft, seed, Orders::in_force());
     let mut bytes = draft.job_bytes();
     let length = match random.below(10) {
         0 => random.within(MAX_JOB_BYTES - 4, MAX_JOB_BYTES + 4),
@@ -57,8 +62,8 @@ fn make_long(random: &mut Random) -> Vec<u8> {
 
 /// An input cut anywhere, in header, rules, literals, questions or schedule; half
 /// of those cut in the job have their first word put right.
-fn make_cut(random: &mut Random) -> Vec<u8> {
-    let mut bytes = make_any(random).bytes();
+fn make_cut(random: &mut Random, seed: u64) -> Vec<u8> {
+    let mut bytes = make_any(random, seed).bytes();
     let job = word_at(&bytes, 0) as usize;
     let length = match random.below(4) {
         0 => random.within(0, HEADER_BYTES + 4),
@@ -74,8 +79,8 @@ fn make_cut(random: &mut Random) -> Vec<u8> {
 }
 
 /// A job with turns in any order, and in half of them one of a worker that isn't.
-fn make_turns(random: &mut Random) -> Vec<u8> {
-    let mut draft = make_any(random);
+fn make_turns(random: &mut Random, seed: u64) -> Vec<u8> {
+    let mut draft = make_any(random, seed);
     let length = random.pick(&[1, 2, 10, 300, 3000]);
     let length = random.within(1, length);
     draft.schedule = (0..length).map(|_| random.below(draft.workers) as u8).collect();
@@ -99,18 +104,19 @@ fn make_bytes(random: &mut Random) -> Vec<u8> {
 
 /// A header that fits, and random fields after it: few claims or many, so that
 /// every later check is met.
-fn make_fields(random: &mut Random) -> Vec<u8> {
+fn make_fields(random: &mut Random, seed: u64) -> Vec<u8> {
     let claims = random.pick(&[0, 1, 2, 40, 4096]);
     let mut draft = Draft::new(claims, random.within(1, 32));
-    draft.rules = vec![(0, Vec::new()); random.within(0, 4)];
-    let rules = draft.rules.len();
-    let literals = if rules == 0 { 0 } else { random.within(0, 6) };
+    let mut lengths = vec![0; random.within(0, 4)];
+    let literals = if lengths.is_empty() { 0 } else { random.within(0, 6) };
     for _ in 0..literals {
-        let at = random.below(rules);
-        draft.rules[at].1.push(0);
+        let at = random.below(lengths.len());
+        lengths[at] += 1;
     }
+    lengths.iter().for_each(|&length| draft.rule(0, &vec![0; length]));
     draft.questions = vec![(0, 0); random.within(0, 3)];
-    let mut bytes = draft.bytes();
+    add_missing(&mut draft, seed, Orders::in_force());
+    let (mut bytes, rules) = (draft.bytes(), draft.rules.len());
     let honest = random.pick(&[0, 60, 90, 98]);
     for at in (HEADER_BYTES..bytes.len()).step_by(2) {
         let kept = at < HEADER_BYTES + 4 * rules && at % 4 == 2 && random.percent(80);

@@ -17,7 +17,9 @@ use std::sync::atomic::{AtomicU64, Ordering};
 use std::time::Instant;
 
 use arguments::{kinds_named, refuse};
+use counts::missing_unmet;
 use oracle::edges::edge_cases;
+use oracle::orders::Orders;
 use program::Program;
 use totals::Totals;
 
@@ -100,32 +102,34 @@ fn in_threads(from: u64, count: u64, list: impl Fn(&mut Totals, u64) + Sync) -> 
 }
 
 /// Runs one part and says what it listed.
-fn part(all: &mut Totals, title: &str, from: u64, count: u64, list: impl Fn(&mut Totals, u64) + Sync) {
+fn part(all: &mut Totals, title: &str, from: u64, count: u64, list: impl Fn(&mut Totals, u64) + Sync) -> Totals {
     if all.differences >= MOST_DIFFERENCES {
-        return;
+        return Totals::default();
     }
     let start = Instant::now();
     let totals = in_threads(from, count, list);
     println!(
-        "{title}: {} inputs, {} accepted, {} left out, {} turns, {} differences, {:.1} s",
+        "{title}: {} inputs, {} accepted, {} with missing records, {} left out, {} turns, {} differences, {:.1} s",
         totals.inputs,
         totals.accepted,
+        totals.missing_jobs,
         totals.left_out,
         totals.turns(),
         totals.differences,
         start.elapsed().as_secs_f64()
     );
     all.add(&totals);
+    totals
 }
 
 fn list_edges(all: &mut Totals, limits: Limits) {
-    let (edges, program) = (edge_cases(), Program::find(limits.seconds));
+    let (edges, program) = (edge_cases(Orders::in_force()), Program::find(limits.seconds));
     part(all, "edges", 0, edges.len() as u64, |totals, number| {
         beside::compare(totals, &program, &format!("edge {number}"), &edges[number as usize].bytes, limits.steps);
     });
 }
 
-fn list_made(all: &mut Totals, kind: &str, from: u64, count: u64, limits: Limits) {
+fn list_made(all: &mut Totals, kind: &str, from: u64, count: u64, limits: Limits) -> Totals {
     let program = Program::find(limits.seconds);
     part(all, kind, from, count, |totals, seed| {
         let Some(input) = inputs::made(kind, seed) else {
@@ -133,13 +137,16 @@ fn list_made(all: &mut Totals, kind: &str, from: u64, count: u64, limits: Limits
             exit(2);
         };
         beside::compare(totals, &program, &format!("{kind} {seed}"), &input, limits.steps);
-    });
+    })
 }
 
 fn list_gate(all: &mut Totals) {
     list_edges(all, GATE_LIMITS);
     for (kind, count) in GATE {
-        list_made(all, kind, 0, count, GATE_LIMITS);
+        let made = list_made(all, kind, 0, count, GATE_LIMITS);
+        if let Some(fault) = missing_unmet(kind, made.accepted, made.missing_jobs) {
+            all.differ("the gate", &fault);
+        }
     }
     if all.differences == 0 {
         all.expect_all_met();

@@ -1,11 +1,16 @@
 //! What was listed and what differs.
 
 use oracle::checks::read_input;
-use oracle::orders::{Orders, Skip};
+use oracle::missing_sorts::{self, Met, SORTS};
+use oracle::model::Verdict;
+use oracle::orders::{Missing, Orders, Skip};
+use oracle::turns::KINDS;
 
-use crate::counts::{add, listed, unmet, KINDS};
+use crate::counts::{add, listed, unmet};
 
 const VALUES: [&str; 4] = ["true", "false", "undefined", "unopened"];
+/// What all but the last of them say.
+const VERDICTS: [Verdict; 3] = [Verdict::True, Verdict::False, Verdict::Undefined];
 /// The numbers of refusals that a listing can show.
 const NUMBERS: [&str; 9] = ["1", "2", "3", "4", "5", "6", "7", "8", "11"];
 
@@ -23,6 +28,9 @@ pub struct Totals {
     /// Claims unopened though questions lead to them: every way to them stands
     /// behind a false literal.
     passed_over: usize,
+    /// Accepted inputs with missing records, and their claims that have a value.
+    pub missing_jobs: usize,
+    missing: Met,
     pub differences: usize,
 }
 
@@ -45,11 +53,15 @@ impl Totals {
         };
         self.accepted += 1;
         add(&mut self.kinds, &tally);
-        let led_to = read_input(input).map_or(Vec::new(), |(job, _)| job.asked_closure());
-        for (line, led_to) in listing.lines().skip(1).zip(led_to) {
+        let (job, _) = read_input(input, Orders::in_force()).expect("a listing with a tally is accepted");
+        self.missing_jobs += usize::from(job.missing_records() > 0);
+        for ((line, led_to), claim) in listing.lines().skip(1).zip(job.asked_closure()).zip(0..) {
             let at = VALUES.iter().position(|value| line.ends_with(value)).expect("a claim line ends with a value");
             self.values[at] += 1;
-            self.passed_over += usize::from(led_to && VALUES[at] == "unopened");
+            match VERDICTS.get(at) {
+                Some(&value) => missing_sorts::count(&job, claim, value, &mut self.missing),
+                None => self.passed_over += usize::from(led_to),
+            }
         }
     }
 
@@ -71,14 +83,20 @@ impl Totals {
         add(&mut self.kinds, &other.kinds);
         add(&mut self.values, &other.values);
         self.passed_over += other.passed_over;
+        self.missing_jobs += other.missing_jobs;
+        add(&mut self.missing, &other.missing);
     }
 
-    /// The gate must meet every kind of turn, every value and every refusal, and
-    /// under order 5 claims that were led to and passed over.
+    /// The gate must meet every kind of turn, every value and every refusal, under
+    /// order 2 every sort of claim with a missing record, and under order 5 claims
+    /// that were led to and passed over.
     pub fn expect_all_met(&mut self) {
         let mut missing = unmet(&KINDS, &self.kinds.map(|count| count as usize));
         missing.extend(unmet(&VALUES, &self.values));
         missing.extend(unmet(&NUMBERS, &self.refused).iter().map(|number| format!("refusal {number}")));
+        if Orders::in_force().missing != Missing::Off {
+            missing.extend(unmet(&SORTS, &self.missing));
+        }
         if Orders::in_force().skip != Skip::Off && self.passed_over == 0 {
             missing.push("a claim led to and unopened".to_string());
         }
@@ -91,6 +109,7 @@ impl Totals {
     pub fn summary(&self) {
         println!("turns: {}", listed(&KINDS, &self.kinds));
         println!("claim lines: {} ({} of them led to)", listed(&VALUES, &self.values), self.passed_over);
+        println!("{} inputs with missing records: {}", self.missing_jobs, listed(&SORTS, &self.missing));
         let rows: Vec<String> =
             NUMBERS.iter().zip(self.refused).map(|(name, count)| format!("{name}: {count}")).collect();
         println!("refused by number {}", rows.join(", "));

@@ -21,6 +21,8 @@ pub struct Met {
     pub kinds: [u64; 8],
     /// Turns that passed the rest of a failed rule.
     pub skips: u64,
+    /// Jobs with missing records.
+    pub missing: u64,
     /// Idle turns of a worker that awaits nothing and owns an open claim.
     pub idle_owners: u64,
     /// Literals of a claim still open, met (not skipped), that stopped leading
@@ -88,12 +90,12 @@ fn count_loose_reads(table: &mut Table) -> u64 {
 }
 
 impl<'a> Explorer<'a> {
-    pub fn new(job: &'a Job, orders: Orders, turn: TurnOf) -> Explorer<'a> {
+    pub fn new(job: &'a Job, orders: Orders, turn: TurnOf, model: Vec<Verdict>) -> Explorer<'a> {
         let mut explorer = Explorer {
             job,
             orders,
             turn,
-            model: well_founded(&Program::of_job(job)),
+            model,
             closure: job.asked_closure(),
             tables: Vec::new(),
             next: Vec::new(),
@@ -134,6 +136,7 @@ impl<'a> Explorer<'a> {
         }
         self.all_through = at == self.tables.len();
         met.jobs += 1;
+        met.missing += u64::from(self.job.missing_records() > 0);
         met.cut_short += u64::from(!self.all_through);
         met.tables += at as u64;
         met.different_ends += u64::from(self.ends_differ());
@@ -267,9 +270,12 @@ pub fn skipped(before: &Table, after: &Table) -> bool {
     })
 }
 
-/// Explores one job to the full; the fault with the job in words.
-pub fn explore_job(job: &Job, orders: Orders, turn: TurnOf, most: usize, met: &mut Met) -> Result<(), String> {
-    let mut explorer = Explorer::new(job, orders, turn);
+/// Explores one job to the full, its turns by a reading of the orders, its model by
+/// their wording; the fault with the job in words.
+pub fn explore_job(bytes: &[u8], orders: Orders, turn: TurnOf, most: usize, met: &mut Met) -> Result<(), String> {
+    let checked = |orders: Orders| Job::check(bytes, orders).map_err(|refusal| format!("it is refused: {refusal:?}"));
+    let (job, worded) = (checked(orders)?, checked(orders.as_worded())?);
+    let mut explorer = Explorer::new(&job, orders, turn, well_founded(&Program::of_job(&worded)));
     let found = explorer.explore(most, met).and_then(|()| explorer.check_rounds(met));
-    found.map_err(|fault| format!("{fault}: {}", job.in_words()))
+    found.map_err(|fault| format!("{fault}: {}", worded.in_words()))
 }

@@ -1,11 +1,10 @@
 //! All jobs of a family of small ones: three claims, at most one rule a claim,
-//! a body of at most two literals in either order; each of two or three workers
-//! asks one claim.
+//! a body of at most two literals in either order, or under order 2 a missing
+//! record; each of two or three workers asks one claim.
 
-use crate::checks::Job;
 use crate::draft::{not, plain, Draft};
 use crate::explore::{explore_job, turn_as_worded, Met};
-use crate::orders::Orders;
+use crate::orders::{Missing, Orders};
 
 pub const CLAIMS: usize = 3;
 
@@ -18,27 +17,28 @@ fn bodies() -> Vec<Vec<u16>> {
     bodies
 }
 
-/// A claim's choices: no rule, or one of the bodies.
-fn choices() -> usize {
-    bodies().len() + 1
+/// A claim's choices: no rule, one of the bodies, or a missing record.
+fn choices(orders: Orders) -> usize {
+    bodies().len() + if orders.missing == Missing::Off { 1 } else { 2 }
 }
 
 /// How many jobs the family has for one number of workers.
-pub fn family_size() -> u64 {
-    choices().pow(CLAIMS as u32) as u64
+pub fn family_size(orders: Orders) -> u64 {
+    choices(orders).pow(CLAIMS as u32) as u64
 }
 
 /// The family's job of this number.
-pub fn family_job(number: u64, workers: usize) -> Draft {
-    let bodies = bodies();
+pub fn family_job(number: u64, workers: usize, orders: Orders) -> Draft {
+    let (bodies, choices) = (bodies(), choices(orders));
     let mut draft = Draft::new(CLAIMS, workers);
     let mut rest = number as usize;
     for claim in 0..CLAIMS {
-        match rest % choices() {
+        match rest % choices {
             0 => {}
-            choice => draft.rule(claim, &bodies[choice - 1]),
+            choice if choice <= bodies.len() => draft.rule(claim, &bodies[choice - 1]),
+            _ => draft.missing(claim),
         }
-        rest /= choices();
+        rest /= choices;
     }
     for worker in 0..workers {
         draft.ask(worker, worker);
@@ -49,9 +49,8 @@ pub fn family_job(number: u64, workers: usize) -> Draft {
 /// Explores the family's job of this number with two and with three workers.
 pub fn explore_family(number: u64, orders: Orders, met: &mut Met) -> Result<(), String> {
     for workers in [2, 3] {
-        let bytes = family_job(number, workers).job_bytes();
-        let job = Job::check(&bytes).map_err(|refusal| format!("{refusal:?}"))?;
-        explore_job(&job, orders, turn_as_worded, 40_000, met)?;
+        let bytes = family_job(number, workers, orders).job_bytes();
+        explore_job(&bytes, orders, turn_as_worded, 40_000, met)?;
     }
     Ok(())
 }

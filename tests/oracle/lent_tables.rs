@@ -4,6 +4,8 @@ use crate::checks::Job;
 use crate::draft::{Draft, Random};
 use crate::failing::make_failing;
 use crate::jobs::{make_small, make_tiny, make_tower};
+use crate::missing_jobs::add_missing;
+use crate::model::Verdict;
 use crate::orders::Orders;
 use crate::table::{Table, OPENED_COUNT};
 
@@ -19,10 +21,12 @@ fn make_draft(random: &mut Random) -> Draft {
 /// A job with the words of a table, for `oracle turn`: a table that turns made,
 /// changed in some words within their ranges, or random within them; now and
 /// then one word is damaged or the table cut short.
-pub fn make_table(random: &mut Random) -> Vec<u8> {
-    let mut bytes = make_draft(random).job_bytes();
-    let job = Job::check(&bytes).expect("a draft is accepted");
-    let mut table = Table::start(&job, Orders::in_force(), true);
+pub fn make_table(random: &mut Random, seed: u64, orders: Orders) -> Vec<u8> {
+    let mut draft = make_draft(random);
+    add_missing(&mut draft, seed, orders);
+    let mut bytes = draft.job_bytes();
+    let job = Job::check(&bytes, orders).expect("a draft is accepted");
+    let mut table = Table::start(&job, orders, true);
     for _ in 0..random.within(0, 6 * job.claims) {
         let worker = random.below(job.workers) as u32;
         table.turn(worker);
@@ -34,6 +38,9 @@ pub fn make_table(random: &mut Random) -> Vec<u8> {
         } else {
             put_worker(&mut table, random);
         }
+    }
+    if job.missing_records() > 0 {
+        put_missing_false(&mut table, random);
     }
     table.words[OPENED_COUNT] = table.claims().filter(|&claim| table.mark(claim) != 0).count() as u32;
     damage_words(&mut table, random);
@@ -56,6 +63,18 @@ fn put_claim(table: &mut Table, random: &mut Random, complete: usize) {
     let record = if mark == 0 { [0, 0, 0] } else { [mark, cursor, random.within(1, claims)] };
     for (word, value) in table.words[at..].iter_mut().zip(record) {
         *word = value as u32;
+    }
+}
+
+/// Marks claims with missing records false, as no run does, in half of the tables.
+fn put_missing_false(table: &mut Table, random: &mut Random) {
+    let chance = random.pick(&[0, 0, 40, 90]);
+    for claim in table.claims().filter(|&claim| table.job.has_missing_record(claim)) {
+        if random.percent(chance) {
+            let (at, claims) = (table.claim_at(claim), table.job.claims);
+            table.words[at] = Verdict::False.mark();
+            table.words[at + 2] = random.within(1, claims) as u32;
+        }
     }
 }
 

@@ -1,9 +1,10 @@
-//! Edge cases of the change orders with the answers that the papers give them,
-//! worked out by hand.
+//! Edge cases of the change orders on tables, with the answers that the papers
+//! give them, worked out by hand.
 
 use crate::checks::Job;
 use crate::draft::{not, plain, Draft};
-use crate::orders::Orders;
+use crate::missing_edges::edges_of_exchange;
+use crate::orders::{Missing, Orders, Skip};
 use crate::table::{Table, OPENED_COUNT};
 
 /// The call that is made on the table.
@@ -15,7 +16,6 @@ pub enum EdgeCall {
 
 pub struct OrderEdge {
     pub name: String,
-    pub orders: Orders,
     pub job: Vec<u8>,
     pub table: Vec<u32>,
     pub call: EdgeCall,
@@ -25,10 +25,10 @@ pub struct OrderEdge {
     pub leaves: Option<Vec<u32>>,
 }
 
-/// What is found wrong with an edge case.
-pub fn edge_fault(edge: &OrderEdge) -> Option<String> {
-    let job = Job::check(&edge.job).expect("an edge case's job is accepted");
-    let mut table = match Table::from_words(&job, edge.orders, edge.table.clone()) {
+/// What is found wrong with an edge case of these orders.
+pub fn edge_fault(edge: &OrderEdge, orders: Orders) -> Option<String> {
+    let job = Job::check(&edge.job, orders).expect("an edge case's job is accepted");
+    let mut table = match Table::from_words(&job, orders, edge.table.clone()) {
         Ok(table) => table,
         Err(refusal) => return Some(format!("{}: its table is refused: {refusal:?}", edge.name)),
     };
@@ -65,10 +65,10 @@ fn field(claims: usize, workers: usize, rules: &[(usize, &[u16])], asks: &[(usiz
 
 /// A table in range that no run need have made: claims that aren't fresh with
 /// their mark, cursor and opening number; workers with the claim they await.
-fn table_of(draft: &Draft, claims: &[(u32, [u32; 3])], waits: &[(u32, u32)]) -> Vec<u32> {
-    let bytes = draft.job_bytes();
-    let job = Job::check(&bytes).expect("an edge case's job is accepted");
-    let mut table = Table::start(&job, Orders::in_force(), true);
+pub fn table_of(draft: &Draft, claims: &[(u32, [u32; 3])], waits: &[(u32, u32)]) -> Vec<u32> {
+    let (bytes, orders) = (draft.job_bytes(), Orders::of(&[2, 5]));
+    let job = Job::check(&bytes, orders).expect("an edge case's job is accepted");
+    let mut table = Table::start(&job, orders, true);
     table.words[OPENED_COUNT] = claims.len() as u32;
     for &(claim, record) in claims {
         let at = table.claim_at(claim);
@@ -82,16 +82,22 @@ fn table_of(draft: &Draft, claims: &[(u32, [u32; 3])], waits: &[(u32, u32)]) -> 
 }
 
 /// Turns of worker 0 from a started table.
-fn turns_from_start(name: &str, order: u32, draft: &Draft, turns: usize, answer: &'static str) -> OrderEdge {
-    let call = EdgeCall::Run(vec![0; turns]);
-    let (orders, job, table) = (Orders::up_to(order), draft.job_bytes(), table_of(draft, &[], &[]));
-    OrderEdge { name: format!("order 5, {name}"), orders, job, table, call, answer, leaves: None }
+fn turns_from_start(name: &str, draft: &Draft, turns: usize, answer: &'static str) -> OrderEdge {
+    let (job, table, call) = (draft.job_bytes(), table_of(draft, &[], &[]), EdgeCall::Run(vec![0; turns]));
+    OrderEdge { name: format!("order 5, {name}"), job, table, call, answer, leaves: None }
 }
 
 /// A turn of worker 0, and what it leaves.
-fn turn_on(name: &str, draft: &Draft, table: Vec<u32>, answer: &'static str, leaves: Option<Vec<u32>>) -> OrderEdge {
-    let (orders, job, call) = (Orders::up_to(5), draft.job_bytes(), EdgeCall::Turn(0));
-    OrderEdge { name: format!("order 5, {name}"), orders, job, table, call, answer, leaves }
+pub fn turn_on(
+    order: u32,
+    name: &str,
+    draft: &Draft,
+    table: Vec<u32>,
+    answer: &'static str,
+    leaves: Option<Vec<u32>>,
+) -> OrderEdge {
+    let (name, job, call) = (format!("order {order}, {name}"), draft.job_bytes(), EdgeCall::Turn(0));
+    OrderEdge { name, job, table, call, answer, leaves }
 }
 
 fn failing_first() -> Draft {
@@ -142,12 +148,11 @@ fn failing_rules() -> Vec<(&'static str, Draft, &'static str)> {
 
 fn edges_from_start() -> Vec<OrderEdge> {
     let mut edges: Vec<OrderEdge> =
-        failing_rules().iter().map(|(name, draft, text)| turns_from_start(name, 5, draft, 7, text)).collect();
+        failing_rules().iter().map(|(name, draft, text)| turns_from_start(name, draft, 7, text)).collect();
     let next_rule =
         field(4, 1, &[(0, &[plain(1), plain(2), plain(2), plain(2)]), (0, &[]), (0, &[plain(3)])], &[(0, 0)]);
     let name = "to the rule's end, over an empty body, on to the next";
-    edges.push(turns_from_start(name, 5, &next_rule, 9, "tally 1 0 3 0 0 1 3 1"));
-    edges.push(turns_from_start("not in force: 0 if 1, 2", 0, &failing_first(), 7, "tally 0 0 3 0 0 0 3 1"));
+    edges.push(turns_from_start(name, &next_rule, 9, "tally 1 0 3 0 0 1 3 1"));
     edges
 }
 
@@ -167,10 +172,10 @@ fn edges_on_tables() -> Vec<OrderEdge> {
         table_of(&ring, &claims, &[(1, 0)])
     };
     vec![
-        turn_on("a cursor inside a failed rule", &long, inside(2), "passed", Some(inside(3))),
-        turn_on("another's claim behind a false one isn't reached", &two, behind(257), "completed", None),
-        turn_on("behind an undefined one it is", &two, behind(258), "idle", Some(behind(258))),
-        turn_on("no takeover behind a false one", &ring, taking(0, 2), "took", Some(taking(1, 1))),
+        turn_on(5, "a cursor inside a failed rule", &long, inside(2), "passed", Some(inside(3))),
+        turn_on(5, "another's claim behind a false one isn't reached", &two, behind(257), "completed", None),
+        turn_on(5, "behind an undefined one it is", &two, behind(258), "idle", Some(behind(258))),
+        turn_on(5, "no takeover behind a false one", &ring, taking(0, 2), "took", Some(taking(1, 1))),
     ]
 }
 
@@ -184,17 +189,22 @@ fn edges_of_cursors() -> Vec<OrderEdge> {
     // 0, the newest, open and passed; 1 false; 2 open with a literal left.
     let own = |mark: u32| table_of(&two, &[(0, [mark, 2, 3]), (1, [257, 0, 1]), (2, [1, 0, 2])], &[]);
     vec![
-        turn_on("a false literal at the cursor is met", &long, at(1, 256), "passed", Some(at(2, 256))),
-        turn_on("the rest of its rule is passed then", &long, at(2, 256), "passed", Some(at(4, 256))),
-        turn_on("the last literal is passed alone", &long, at(3, 256), "passed", Some(at(4, 256))),
-        turn_on("the next rule is read", &long, at(4, 256), "opened", Some(opened)),
-        turn_on("an own claim behind a false one isn't C", &two, own(1), "completed", Some(own(257))),
+        turn_on(5, "a false literal at the cursor is met", &long, at(1, 256), "passed", Some(at(2, 256))),
+        turn_on(5, "the rest of its rule is passed then", &long, at(2, 256), "passed", Some(at(4, 256))),
+        turn_on(5, "the last literal is passed alone", &long, at(3, 256), "passed", Some(at(4, 256))),
+        turn_on(5, "the next rule is read", &long, at(4, 256), "opened", Some(opened)),
+        turn_on(5, "an own claim behind a false one isn't C", &two, own(1), "completed", Some(own(257))),
     ]
 }
 
-pub fn order_edges() -> Vec<OrderEdge> {
-    let mut edges = edges_from_start();
-    edges.extend(edges_on_tables());
-    edges.extend(edges_of_cursors());
+/// The edge cases with these orders in force.
+pub fn order_edges(orders: Orders) -> Vec<OrderEdge> {
+    let mut edges = match orders.skip {
+        Skip::Off => vec![turns_from_start("not in force: 0 if 1, 2", &failing_first(), 7, "tally 0 0 3 0 0 0 3 1")],
+        _ => [edges_from_start(), edges_on_tables(), edges_of_cursors()].into_iter().flatten().collect(),
+    };
+    if orders.missing != Missing::Off {
+        edges.extend(edges_of_exchange());
+    }
     edges
 }

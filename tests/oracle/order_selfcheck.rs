@@ -2,14 +2,18 @@
 //! small jobs, shortcuts beside the text, and wrong readings that must be found.
 
 use crate::checks::{part_input, word_at, Job};
-use crate::draft::Random;
+use crate::draft::{Draft, Random};
 use crate::explore::{explore_job, turn_as_worded, Met, TurnOf};
 use crate::family::{explore_family, family_size};
 use crate::faulty::{awaited_only_taken, losers_woken, never_taken};
 use crate::jobs::generate;
+use crate::missing_check::{check_slice, MissingTotals};
+use crate::missing_jobs::add_missing;
+use crate::missing_sorts::SORTS;
 use crate::order_edges::{edge_fault, order_edges};
-use crate::orders::{Orders, Skip};
+use crate::orders::Orders;
 use crate::promises::ensure;
+use crate::readings::{kept_at_exchange_shown, shown_by_lists, worded, wrong_readings};
 use crate::shortcuts::{check_shortcuts, Lists};
 use crate::small_fields::make_small_field;
 use crate::table::Table;
@@ -18,17 +22,23 @@ use crate::turns::Kind;
 /// At most so many tables of a job are gone through.
 const MOST_TABLES: usize = 40_000;
 
-/// The edge cases: how many, and the faults.
-pub fn check_order_edges() -> (usize, Vec<String>) {
-    let edges = order_edges();
-    (edges.len(), edges.iter().filter_map(edge_fault).collect())
+/// The edge cases of these orders: how many, and the faults.
+pub fn check_order_edges(orders: Orders) -> (usize, Vec<String>) {
+    let edges = order_edges(orders);
+    (edges.len(), edges.iter().filter_map(|edge| edge_fault(edge, orders)).collect())
+}
+
+/// A small field, as it is explored; every third has missing records.
+fn small_field(random: &mut Random, seed: u64, size: (usize, usize), orders: Orders) -> Draft {
+    let mut draft = make_small_field(random, size.0, size.1);
+    add_missing(&mut draft, seed, orders);
+    draft
 }
 
 /// Explores one small job under every schedule.
 pub fn explore_one(seed: u64, size: (usize, usize), orders: Orders, turn: TurnOf, met: &mut Met) -> Result<(), String> {
-    let bytes = make_small_field(&mut Random::new("explore", seed), size.0, size.1).job_bytes();
-    let job = Job::check(&bytes).map_err(|refusal| format!("a made job is refused: {refusal:?}"))?;
-    explore_job(&job, orders, turn, MOST_TABLES, met)
+    let bytes = small_field(&mut Random::new("explore", seed), seed, size, orders).job_bytes();
+    explore_job(&bytes, orders, turn, MOST_TABLES, met)
 }
 
 /// Explores so many made jobs, and the family's jobs that are `apart` from each other.
@@ -36,7 +46,7 @@ pub fn explore_some(jobs: u64, apart: usize, orders: Orders, met: &mut Met) -> R
     for seed in 0..jobs {
         explore_one(seed, (5, 3), orders, turn_as_worded, met).map_err(|fault| format!("made {seed}: {fault}"))?;
     }
-    for number in (0..family_size()).step_by(apart) {
+    for number in (0..family_size(orders)).step_by(apart) {
         explore_family(number, orders, met).map_err(|fault| format!("family {number}: {fault}"))?;
     }
     Ok(())
@@ -48,55 +58,23 @@ pub fn seeded_fault(jobs: u64, orders: Orders, turn: TurnOf) -> Option<(u64, Str
     (0..jobs).find_map(|seed| Some((seed, explore_one(seed, (5, 3), orders, turn, &mut met).err()?)))
 }
 
-/// The two readings of order 5 and the three engine faults that must be found.
+/// The wrong readings and the three engine faults that must be found.
 pub fn seeded_faults(jobs: u64) -> Vec<(&'static str, Option<(u64, String)>)> {
-    let reading = |skip: Skip| seeded_fault(jobs, Orders { skip }, turn_as_worded);
-    let engine = |turn: TurnOf| seeded_fault(jobs, Orders::up_to(5), turn);
-    vec![
-        ("literals behind a false one still lead", reading(Skip::StillLeading)),
-        ("a negated literal of a false claim counts as false", reading(Skip::ByClaim)),
-        ("losers woken at takeover", engine(losers_woken)),
-        ("awaited claims only taken", engine(awaited_only_taken)),
-        ("never taken", engine(never_taken)),
-    ]
-}
-
-/// A made job's schedule, then rounds, under another reading: is some turn or
-/// table of the list another?
-fn list_shows(input: &[u8], skip: Skip) -> bool {
-    let (bytes, schedule) = part_input(input);
-    let Ok(job) = Job::check(bytes) else { return false };
-    let (mut table, mut other) =
-        (Table::start(&job, Orders::up_to(5), true), Table::start(&job, Orders { skip }, true));
-    let known = schedule.iter().map(|&byte| u32::from(byte)).filter(|&worker| (worker as usize) < job.workers);
-    let rounds = (0..job.promised_rounds()).flat_map(|_| 0..job.workers as u32);
-    for worker in known.chain(rounds) {
-        if table.turn(worker) != other.turn(worker) || table.words != other.words {
-            return true;
-        }
-        if table.all_answered() {
-            break;
-        }
-    }
-    false
-}
-
-/// How many of a kind's first seeds tell each wrong reading from the order.
-pub fn readings_told_apart(kind: &str, seeds: u64) -> [u64; 2] {
-    let mut counts = [0; 2];
-    for input in (0..seeds).filter_map(|seed| generate(kind, seed)) {
-        for (count, skip) in counts.iter_mut().zip([Skip::StillLeading, Skip::ByClaim]) {
-            *count += u64::from(list_shows(&input, skip));
-        }
-    }
-    counts
+    let engines: [(&str, TurnOf); 3] = [
+        ("losers woken at takeover", losers_woken),
+        ("awaited claims only taken", awaited_only_taken),
+        ("never taken", never_taken),
+    ];
+    let readings = wrong_readings().into_iter().map(|(name, orders)| (name, orders, turn_as_worded as TurnOf));
+    let faults = readings.chain(engines.map(|(name, turn)| (name, worded(), turn)));
+    faults.map(|(name, orders, turn)| (name, seeded_fault(jobs, orders, turn))).collect()
 }
 
 /// Every worker's turn on a table in range that no run need have made: it
 /// changes something exactly when it isn't idle, and leaves a table in range.
 pub fn check_lent_turns(input: &[u8], orders: Orders) -> Result<(), String> {
     let (bytes, rest) = part_input(input);
-    let job = Job::check(bytes).map_err(|refusal| format!("a made job is refused: {refusal:?}"))?;
+    let job = Job::check(bytes, orders).map_err(|refusal| format!("a made job is refused: {refusal:?}"))?;
     let words: Vec<u32> = rest.chunks_exact(4).map(|word| word_at(word, 0)).collect();
     let Ok(table) = Table::from_words(&job, orders, words) else { return Ok(()) };
     for worker in table.workers() {
@@ -133,23 +111,57 @@ pub struct Checked {
 }
 
 impl Checked {
-    fn turns_up_to(&mut self, order: u32) {
+    /// The edge cases of these orders, jobs explored, lists and tables; of these
+    /// one part in `parts`.
+    fn turns_under(&mut self, numbers: &[u32], parts: u64) {
         let (mut met, mut lists) = (Met::default(), Lists::default());
-        let orders = Orders::up_to(order);
-        self.faults.extend(explore_some(1200, 211, orders, &mut met).err());
-        let kinds = LISTS.iter().filter_map(|&(kind, seeds)| check_kind(kind, 0, seeds, orders, &mut lists).err());
-        self.faults.extend(kinds);
-        let tables = (0..2000).filter_map(|seed| generate("table", seed));
+        let orders = Orders::of(numbers);
+        let (edges, faults) = check_order_edges(orders);
+        self.faults.extend(faults);
+        self.faults.extend(explore_some(1200 / parts, 211 * parts as usize, orders, &mut met).err());
+        let list = |&(kind, seeds): &(&str, u64)| check_kind(kind, 0, seeds / parts, orders, &mut lists).err();
+        self.faults.extend(LISTS.iter().filter_map(list));
+        let tables = (0..2000 / parts).filter_map(|seed| generate("table", seed, orders));
         self.faults.extend(tables.filter_map(|input| check_lent_turns(&input, orders).err()));
         self.tables += met.tables;
         self.lines.push(format!(
-            "orders up to {order}: {} jobs explored, {} tables, {} turns, {} skips; \
-             {} lists by text and shortcuts, {} turns, {} skips",
-            met.jobs, met.tables, met.turns, met.skips, lists.lists, lists.turns, lists.skips
+            "orders {numbers:?}: {edges} edge cases; {} jobs explored, {} with missing records, {} tables, {} turns, {} skips; \
+             {} lists by text and shortcuts, {} with missing records, {} turns, {} skips",
+            met.jobs,
+            met.missing,
+            met.tables,
+            met.turns,
+            met.skips,
+            lists.lists,
+            lists.missing,
+            lists.turns,
+            lists.skips
         ));
-        if order >= 5 && (met.skips == 0 || lists.skips == 0) {
+        if numbers.contains(&5) && (met.skips == 0 || lists.skips == 0) {
             self.faults.push("no turn passed the rest of a failed rule".to_string());
         }
+        if numbers.contains(&2) && (met.missing == 0 || lists.missing == 0) {
+            self.faults.push("no job had a missing record".to_string());
+        }
+    }
+
+    /// What order 2 says, in second ways.
+    fn missing_in_other_ways(&mut self) {
+        let mut totals = MissingTotals::default();
+        self.faults.extend(check_slice(worded(), &mut totals));
+        self.lines.push(format!(
+            "order 2 in second ways: {} inputs, {} refused, {} missing records; {} beside the extended job, {} beside \
+             the alternating sets, {} completions on tables; claims by sort {:?}",
+            totals.inputs,
+            totals.refused,
+            totals.records,
+            totals.extended_jobs,
+            totals.alternating,
+            totals.completions,
+            totals.sorts
+        ));
+        let unmet = SORTS.iter().zip(totals.sorts).filter(|(_, count)| *count == 0);
+        self.faults.extend(unmet.map(|(sort, _)| format!("never met: {sort}")));
     }
 
     fn faults_found(&mut self) {
@@ -162,25 +174,35 @@ impl Checked {
     }
 
     fn readings_told_apart(&mut self, kind: &str) {
-        let counts = readings_told_apart(kind, 200);
-        self.lines.push(format!("wrong readings of order 5 shown by lists of 200 jobs, kind {kind}: {counts:?}"));
+        let counts = shown_by_lists(kind, 200);
+        self.lines.push(format!("wrong readings shown by lists of 200 jobs, kind {kind}: {counts:?}"));
         if counts.contains(&0) {
-            self.faults.push(format!("no list of kind {kind} shows a wrong reading of order 5"));
+            self.faults.push(format!("no list of kind {kind} shows a wrong reading"));
+        }
+    }
+
+    fn exchange_told_apart(&mut self) {
+        let count = kept_at_exchange_shown(2000);
+        self.lines.push(format!("missing records kept at the exchange: shown by {count} of 2000 tables"));
+        if count == 0 {
+            self.faults.push("no table shows missing records kept at the exchange".to_string());
         }
     }
 }
 
 /// A slice of everything.
 pub fn check_orders() -> Checked {
-    let (count, faults) = check_order_edges();
-    let mut checked = Checked { lines: vec![format!("{count} edge cases of orders")], faults, tables: 0 };
-    for order in [5, 0] {
-        checked.turns_up_to(order);
+    let mut checked = Checked { lines: Vec::new(), faults: Vec::new(), tables: 0 };
+    checked.turns_under(&[2, 5], 1);
+    for numbers in [&[2][..], &[5], &[]] {
+        checked.turns_under(numbers, 4);
     }
+    checked.missing_in_other_ways();
     checked.faults_found();
     for kind in ["tiny", "small", "failing"] {
         checked.readings_told_apart(kind);
     }
+    checked.exchange_told_apart();
     checked
 }
 
@@ -190,8 +212,8 @@ pub fn check_kind(kind: &str, from: u64, seeds: u64, orders: Orders, lists: &mut
     for seed in from..from + seeds {
         let random = &mut Random::new("shortcuts", seed);
         let input = match kind {
-            "explored" => make_small_field(random, 9, 5).bytes(),
-            _ => generate(kind, seed).ok_or("no such kind")?,
+            "explored" => small_field(random, seed, (9, 5), orders).bytes(),
+            _ => generate(kind, seed, orders).ok_or("no such kind")?,
         };
         check_shortcuts(&input, orders, random, lists).map_err(|fault| format!("{kind} {seed}: {fault}"))?;
     }

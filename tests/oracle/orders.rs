@@ -3,10 +3,40 @@
 use std::sync::OnceLock;
 
 /// All orders that have landed.
-const LANDED: u32 = 5;
+const LANDED: [u32; 2] = [2, 5];
 
-/// Names another one than the last that landed, for a library from before it.
+/// Names other ones than these, for a library from before one of them: their
+/// numbers, commas between; 0 or nothing for none.
 const VARIABLE: &str = "ZESTCHINTZ_ORDERS";
+
+/// Order 2, and other readings of its wording that `selfcheck` shows to be
+/// wrong.
+#[derive(Clone, Copy, Debug, PartialEq, Eq)]
+pub enum Missing {
+    /// A body length of 65,535 counts in the sum under 6 as any other does.
+    Off,
+    /// A record of that length has no literals, and its head counts as having
+    /// one more rule, whose only literal is undefined.
+    AsWorded,
+    /// Wrong: the record is a rule with an empty body.
+    EmptyBody,
+    /// Wrong: the record is no rule.
+    NoRule,
+    /// Wrong: its length counts in the sum.
+    CountedInSum,
+    /// Wrong: the record is lost where its head has another rule.
+    LostBesideRules,
+    /// Wrong: the exchange of a complete claim's rules leaves its records there.
+    KeptAtExchange,
+}
+
+/// The wrong readings of order 2 that an evaluation can show.
+pub const MISREADINGS: [(&str, Missing); 4] = [
+    ("a missing record is an empty body", Missing::EmptyBody),
+    ("a missing record is no rule", Missing::NoRule),
+    ("a missing record counts in the sum under 6", Missing::CountedInSum),
+    ("a missing record is lost beside another rule", Missing::LostBesideRules),
+];
 
 /// Order 5, and two other readings of its wording that `selfcheck` shows to be
 /// wrong.
@@ -24,22 +54,41 @@ pub enum Skip {
 
 #[derive(Clone, Copy, Debug, PartialEq, Eq)]
 pub struct Orders {
+    /// Order 2: a missing measurement is undefined.
+    pub missing: Missing,
     /// Order 5: a rule that has failed is read no further.
     pub skip: Skip,
 }
 
 impl Orders {
-    /// All orders up to this one; 0 is the base.
-    pub fn up_to(order: u32) -> Orders {
-        Orders { skip: if order >= 5 { Skip::AsWorded } else { Skip::Off } }
+    /// The orders of these numbers, as they are worded; without one, the base.
+    pub fn of(numbers: &[u32]) -> Orders {
+        Orders {
+            missing: if numbers.contains(&2) { Missing::AsWorded } else { Missing::Off },
+            skip: if numbers.contains(&5) { Skip::AsWorded } else { Skip::Off },
+        }
     }
 
-    /// Those that have landed, or those up to the one that ZESTCHINTZ_ORDERS names.
+    /// The same orders as they are worded.
+    pub fn as_worded(self) -> Orders {
+        Orders {
+            missing: if self.missing == Missing::Off { Missing::Off } else { Missing::AsWorded },
+            skip: if self.skip == Skip::Off { Skip::Off } else { Skip::AsWorded },
+        }
+    }
+
+    /// Those that have landed, or those that ZESTCHINTZ_ORDERS names.
     pub fn in_force() -> Orders {
         static IN_FORCE: OnceLock<Orders> = OnceLock::new();
         *IN_FORCE.get_or_init(|| match std::env::var(VARIABLE) {
-            Err(_) => Orders::up_to(LANDED),
-            Ok(order) => Orders::up_to(order.parse().unwrap_or_else(|_| panic!("{VARIABLE}={order} is no number"))),
+            Err(_) => Orders::of(&LANDED),
+            Ok(list) => Orders::named(&list).unwrap_or_else(|| panic!("{VARIABLE}={list} names no orders that landed")),
         })
+    }
+
+    fn named(list: &str) -> Option<Orders> {
+        let words = list.split(',').filter(|&word| !word.is_empty() && word != "0");
+        let numbers: Vec<u32> = words.map(str::parse).collect::<Result<_, _>>().ok()?;
+        numbers.iter().all(|number| LANDED.contains(number)).then(|| Orders::of(&numbers))
     }
 }

@@ -15,6 +15,8 @@ pub struct Lists {
     pub lists: u64,
     pub turns: u64,
     pub skips: u64,
+    /// Lists on jobs with missing records.
+    pub missing: u64,
     /// Turns before which something found was kept.
     pub kept: u64,
 }
@@ -54,7 +56,7 @@ impl Pair<'_> {
 /// until all is answered.
 pub fn check_shortcuts(input: &[u8], orders: Orders, random: &mut Random, lists: &mut Lists) -> Result<(), String> {
     let (bytes, schedule) = part_input(input);
-    let Ok(job) = Job::check(bytes) else { return Ok(()) };
+    let Ok(job) = Job::check(bytes, orders) else { return Ok(()) };
     let (short, text) = (Table::start(&job, orders, false), Table::start(&job, orders, true));
     let mut pair = Pair { short, text, model: well_founded(&Program::of_job(&job)), changes: 0, idle: 0 };
     let mut made = schedule.iter().map(|&byte| u32::from(byte)).filter(|&worker| (worker as usize) < job.workers);
@@ -68,6 +70,7 @@ pub fn check_shortcuts(input: &[u8], orders: Orders, random: &mut Random, lists:
     }
     ensure(pair.changes <= job.promised_rounds(), "more changing turns than 2L + A + 3Q")?;
     lists.lists += 1;
+    lists.missing += u64::from(job.missing_records() > 0);
     check_values(&pair.text, &pair.model)?;
     check_end(&pair.text, &job.asked_closure())
 }

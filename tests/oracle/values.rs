@@ -2,11 +2,12 @@
 
 use crate::checks::Literal;
 use crate::model::{well_founded, Program, Verdict};
+use crate::orders::Missing;
 use crate::table::Table;
 
 impl Table<'_> {
     /// The values of `claims` in the model of the whole job with the rules of
-    /// complete claims exchanged.
+    /// complete claims exchanged, their missing records too.
     pub fn values_by_text(&self, claims: &[u32]) -> Vec<Verdict> {
         let mut program = Program::new(self.job.claims);
         for claim in self.claims() {
@@ -16,9 +17,12 @@ impl Table<'_> {
                 Some(Verdict::Undefined) => program.add_undefined(claim),
                 None => {
                     for rule in self.job.rules_of(claim) {
-                        program.add_rule(claim, self.job.body(rule).iter().copied());
+                        program.add_record(self.job, rule, claim);
                     }
                 }
+            }
+            if self.orders.missing == Missing::KeptAtExchange && self.job.has_missing_record(claim) {
+                program.add_missing(claim);
             }
         }
         let model = well_founded(&program);
@@ -39,6 +43,10 @@ impl Table<'_> {
         program.add_undefined(undefined);
         for &claim in claims {
             for rule in self.job.rules_of(claim) {
+                if rule.missing {
+                    program.add_missing(local[claim as usize]);
+                    continue;
+                }
                 let body = self.job.body(rule);
                 if body.iter().any(|literal| self.fails(literal)) {
                     continue;

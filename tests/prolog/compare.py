@@ -18,6 +18,7 @@ from collections import Counter
 
 import listed
 import model
+import orders
 
 # Among these are jobs on which SWI-Prolog 9.0.4 shows a fault.
 GATE = ["tiny:0:80", "small:0:100", "small:2965:1", "negloop:0:90", "strat:0:30", "cluster:0:30", "cluster:148:1",
@@ -95,10 +96,9 @@ def compare(folder, job):
     return "left undecided" if last == ours else "contradicts itself"
 
 
-def compare_listed(made, job):
+def compare_listed(made, ours):
     """How many claim lines of the listing program have the verdicts; none where
     the job is large.  Raises Differs."""
-    ours = verdicts_of(output([COMPARE, "verdicts"], job))
     if len(ours) > listed.MOST_CLAIMS:
         return 0
     fault, lines = listed.compare(made, ours)
@@ -107,32 +107,54 @@ def compare_listed(made, job):
     return lines
 
 
+def compare_made(folder, kind, seed, count):
+    """Compares a made job and counts what was met.  Raises Differs."""
+    made = output([ORACLE, "gen", kind, str(seed)])
+    job = made[:int.from_bytes(made[:4], "little")]
+    result = compare(folder, job)
+    if result != "refused":
+        ours = verdicts_of(output([COMPARE, "verdicts"], job))
+        lines = compare_listed(made, ours)
+        count["listed"] += lines > 0
+        count["lines"] += lines
+        missing = {head for head, body in model.rules_of(job)[1] if body == model.MISSING}
+        if missing and model.alternating(job) != ours:
+            raise Differs("the third evaluator doesn't agree with the library on missing records")
+        count["missing"] += len(missing) > 0
+        count.update("missing and " + ours[head] for head in missing)
+    count[result] += 1
+    if result not in ("equal", "refused"):
+        print("known fault: %s %d: SWI-Prolog %s" % (kind, seed, result), flush=True)
+
+
+def never_met(count):
+    """What the comparison must meet under order 2 and didn't."""
+    wanted = ("missing and undefined", "missing and true") if orders.in_force(2) else ()
+    return [name for name in wanted if not count[name]]
+
+
 def main(parts):
     count, bad = Counter(), 0
     with tempfile.TemporaryDirectory() as folder:
-        for part in parts:
+        for part in parts or GATE:
             kind, start, jobs = part.split(":")
             for seed in range(int(start), int(start) + int(jobs)):
-                made = output([ORACLE, "gen", kind, str(seed)])
-                job = made[:int.from_bytes(made[:4], "little")]
                 try:
-                    result = compare(folder, job)
-                    lines = 0 if result == "refused" else compare_listed(made, job)
+                    compare_made(folder, kind, seed, count)
                 except Differs as fault:
                     bad += 1
                     print("differs: %s %d: %s" % (kind, seed, fault), flush=True)
-                    continue
-                count[result] += 1
-                count["listed"] += lines > 0
-                count["lines"] += lines
-                if result not in ("equal", "refused"):
-                    print("known fault: %s %d: SWI-Prolog %s" % (kind, seed, result), flush=True)
+    for name in [] if parts else never_met(count):
+        bad += 1
+        print("differs: the gate: a claim %s was never met" % name)
     kinds = [count[result] for result in ("equal", "left undecided", "contradicts itself", "refused")]
     print("%d jobs: %d equal at once, %d after feeding back what SWI-Prolog left undecided, "
-          "%d where it contradicts itself, %d refused by both; %d of them listed, with %d claim lines; %d differ"
-          % (sum(kinds) + bad, *kinds, count["listed"], count["lines"], bad))
+          "%d where it contradicts itself, %d refused by both; %d of them listed, with %d claim lines; "
+          "%d with missing records, whose claims are undefined %d times and true %d; %d differ"
+          % (sum(kinds) + bad, *kinds, count["listed"], count["lines"],
+             count["missing"], count["missing and undefined"], count["missing and true"], bad))
     return 1 if bad else 0
 
 
 if __name__ == "__main__":
-    sys.exit(main(sys.argv[1:] or GATE))
+    sys.exit(main(sys.argv[1:]))

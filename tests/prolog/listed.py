@@ -1,15 +1,15 @@
 """The listing program beside verdicts that SWI-Prolog was asked about: each
 claim line with a value and each question line must have the verdict, and a line
 may say `unopened` only where the specification lets it."""
+import itertools
 import os
 import struct
 import subprocess
 
 import model
+import orders
 
 PROGRAM = os.environ.get("ZESTCHINTZ_VERDICTS", "target/bin/verdicts")
-# The orders in force; order 5 lets a claim behind a false literal stay unopened.
-ORDERS = int(os.environ.get("ZESTCHINTZ_ORDERS", "5"))
 # Larger jobs, with every claim asked, take the program too long.
 MOST_CLAIMS = 200
 SECONDS = 60
@@ -36,7 +36,7 @@ def needed(body, verdicts):
     claims = []
     for claim, negated in body:
         claims.append(claim)
-        if ORDERS >= 5 and verdicts[claim] == ("true" if negated else "false"):
+        if orders.in_force(5) and verdicts[claim] == ("true" if negated else "false"):
             break
     return claims
 
@@ -52,7 +52,7 @@ def unopened_fault(given, values, verdicts):
         bodies.setdefault(head, []).append(body)
     led_to, new = set(asked), list(asked)
     while new:
-        for claim, _ in sum(bodies.get(new.pop(), []), []):
+        for claim, _ in itertools.chain(*bodies.get(new.pop(), [])):
             if claim not in led_to:
                 led_to.add(claim)
                 new.append(claim)

@@ -48,13 +48,18 @@ def without_literals(rules, still):
     return rules
 
 
+def renamed(body, name):
+    """A body with other names of its claims."""
+    return body if body == model.MISSING else [(name(claim), negated) for claim, negated in body]
+
+
 def with_claims_merged(rules, still):
     """Puts one claim in the place of another in all bodies and leaves out the
     other's rules."""
     claims = sorted({head for head, _ in rules} | {claim for _, body in rules for claim, _ in body})
     for gone in claims:
         for kept in claims:
-            fewer = [(head, [(kept if c == gone else c, negated) for c, negated in body])
+            fewer = [(head, renamed(body, lambda claim: kept if claim == gone else claim))
                      for head, body in rules if head != gone]
             if gone != kept and fewer != rules and still(fewer):
                 rules = fewer
@@ -66,14 +71,14 @@ def renumbered(rules):
     """The same with only the claims in use, numbered from 0."""
     used = sorted({head for head, _ in rules} | {claim for _, body in rules for claim, _ in body})
     number = {claim: i for i, claim in enumerate(used)}
-    return len(used), [(number[head], [(number[c], negated) for c, negated in body]) for head, body in rules]
+    return len(used), [(number[head], renamed(body, number.get)) for head, body in rules]
 
 
 def show(folder, claims, rules):
     job = model.job_of(claims, rules)
     for head, body in sorted(rules, key=lambda rule: rule[0]):
         words = ["not %d" % c if negated else str(c) for c, negated in body]
-        print("%d%s" % (head, " if " + ", ".join(words) if words else ""))
+        print("%d%s" % (head, " missing" if body == model.MISSING else " if " + ", ".join(words) if words else ""))
     said = compare.ask_prolog(folder, job)
     for claim, verdict in enumerate(model.alternating(job)):
         print("claim %d is %s, SWI-Prolog says %s" % (claim, verdict, said[claim]))
@@ -94,9 +99,9 @@ def main(kind, seed, *flags):
             size = (len(rules), sum(len(body) for _, body in rules))
             rules = without_literals(without_rules(rules, still), still)
             rules = with_claims_merged(rules, still)
-        fewer_claims, renamed = renumbered(rules)
-        if differs(folder, fewer_claims, renamed, contradicts):
-            claims, rules = fewer_claims, renamed
+        fewer_claims, fewer = renumbered(rules)
+        if differs(folder, fewer_claims, fewer, contradicts):
+            claims, rules = fewer_claims, fewer
         show(folder, claims, rules)
 
 

@@ -3,19 +3,33 @@ against the rules.  Used where SWI-Prolog and the library differ."""
 import struct
 
 NEGATED = 32768
+MISSING_LENGTH = 65535
+# The body of a missing record; other bodies are lists.
+MISSING = ()
 
 
 def rules_of(job):
-    """The number of claims, and for each rule its head and body, a body being
-    pairs of claim and whether it is negated."""
+    """The number of claims, and for each rule of an accepted job its head and
+    body, a body being pairs of claim and whether it is negated, or MISSING."""
     _, claims, rules, _, _, _, rules_at, literals_at, _ = struct.unpack_from("<9I", job)
     found, at = [], literals_at
     for rule in range(rules):
         head, length = struct.unpack_from("<HH", job, rules_at + 4 * rule)
+        if length == MISSING_LENGTH:
+            found.append((head, MISSING))
+            continue
         fields = struct.unpack_from("<%dH" % length, job, at)
         found.append((head, [(field % NEGATED, field >= NEGATED) for field in fields]))
         at += 2 * length
     return claims, found
+
+
+def extended(job):
+    """Claims and rules as order 2 extends them: one claim more, which is
+    undefined, and for each missing record a rule with that claim alone."""
+    claims, rules = rules_of(job)
+    rules = [(head, [(claims, False)] if body == MISSING else body) for head, body in rules]
+    return claims + 1, rules + [(claims, [(claims, True)])]
 
 
 def job_of(claims, rules):
@@ -26,7 +40,7 @@ def job_of(claims, rules):
     end = literals_at + 2 * len(bodies)
     job = struct.pack("<9I", end, claims, len(rules), len(bodies), 1, 0, 36, literals_at, end)
     for head, body in rules:
-        job += struct.pack("<HH", head, len(body))
+        job += struct.pack("<HH", head, MISSING_LENGTH if body == MISSING else len(body))
     for claim, negated in bodies:
         job += struct.pack("<H", claim + NEGATED * negated)
     return job
@@ -70,7 +84,7 @@ def uses_of(claims, rules):
 
 def alternating(job):
     """The verdicts by the alternating fixpoint."""
-    claims, rules = rules_of(job)
+    claims, rules = extended(job)
     uses, known = uses_of(claims, rules), set()
     while True:
         possible = least(rules, uses, known)
@@ -78,7 +92,7 @@ def alternating(job):
         if more == known:
             break
         known = more
-    return ["true" if c in known else "undefined" if c in possible else "false" for c in range(claims)]
+    return ["true" if c in known else "undefined" if c in possible else "false" for c in range(claims - 1)]
 
 
 def breaks_the_rules(job, verdicts):
@@ -86,8 +100,8 @@ def breaks_the_rules(job, verdicts):
     claims and U those that aren't false, K = D(U) and U = D(K) must hold.  The
     model is the least such pair; an answer that is none is wrong whatever the
     model is."""
-    claims, rules = rules_of(job)
+    claims, rules = extended(job)
     uses = uses_of(claims, rules)
-    known = {c for c in range(claims) if verdicts[c] == "true"}
-    possible = {c for c in range(claims) if verdicts[c] != "false"}
+    known = {c for c, verdict in enumerate(verdicts) if verdict == "true"}
+    possible = {c for c, verdict in enumerate(verdicts) if verdict != "false"} | {claims - 1}
     return least(rules, uses, possible) != known or least(rules, uses, known) != possible

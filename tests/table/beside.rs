@@ -34,7 +34,7 @@ impl<'a> Beside<'a> {
 
     /// Both make a call on the table they have.
     pub fn make(&mut self, call: &Call) -> Given {
-        let expected = call.by_oracle(&mut self.table, &mut self.totals.failed_in_lists);
+        let expected = call.by_oracle(&mut self.table, &mut self.totals.in_lists);
         let length = self.table.words.len();
         let given = call.by_library(self.bytes, self.lent.table(length));
         self.compare(call, "", expected, given);

@@ -7,8 +7,8 @@ use oracle::checks::{check_schedule, refuse, Job, Refusal};
 use oracle::orders::Orders;
 use oracle::table::{Layout, Table};
 
-use crate::failed::{self, Met};
 use crate::library;
+use crate::met::Met;
 
 #[derive(Clone)]
 pub enum Call {
@@ -82,7 +82,7 @@ impl Call {
 
     /// The oracle makes the call on a table that passed the checks before:
     /// checks 11 and 12 are left, and `table` moves on.  `met` counts what its
-    /// turns meet of failed rules.
+    /// turns meet.
     pub fn by_oracle(&self, table: &mut Table, met: &mut Met) -> Given {
         let mut tally = [0; 8];
         let answer = match self {
@@ -93,10 +93,10 @@ impl Call {
                 Ok(0)
             }
             Call::Turn(worker) if *worker >= table.job.workers => refuse(11, 0),
-            Call::Turn(worker) => Ok(failed::turn(table, *worker as u32, met) as u64),
+            Call::Turn(worker) => Ok(met.turn(table, *worker as u32) as u64),
             Call::Run(schedule) => check_schedule(table.job, schedule).map(|()| {
                 for &worker in schedule {
-                    tally[failed::turn(table, u32::from(worker), met) as usize] += 1;
+                    tally[met.turn(table, u32::from(worker)) as usize] += 1;
                 }
                 0
             }),

@@ -1,9 +1,9 @@
-//! What turns meet of rules that have failed (order 5), so that the gate can
-//! tell whether each sort was met.
+//! What turns meet of rules that have failed (order 5).
 
 use oracle::orders::Skip;
-use oracle::table::Table;
 use oracle::turns::Kind;
+
+use crate::met::Made;
 
 /// What is counted, on lists from a start and on tables that no run made.
 pub const SORTS: [&str; 9] = [
@@ -21,38 +21,25 @@ pub const SORTS: [&str; 9] = [
 /// The last sort is met on tables that no run made alone.
 pub const SORTS_OF_LISTS: usize = 8;
 
-pub type Met = [usize; 9];
+pub type Counts = [usize; 9];
 
-/// On larger jobs a turn is only made.
-const MOST_CLAIMS: usize = 60;
-
-/// Makes a turn and counts what it meets.
-pub fn turn(table: &mut Table, worker: u32, met: &mut Met) -> Kind {
-    if table.orders.skip == Skip::Off || table.job.claims > MOST_CLAIMS {
-        return table.turn(worker);
+/// Counts what a turn met.
+pub fn count(made: &Made, met: &mut Counts) {
+    if made.after.orders.skip == Skip::Off {
+        return;
     }
-    let before = table.clone();
-    let kind = table.turn(worker);
-    if kind == Kind::Passed {
-        count_skip(&before, table, met);
+    if made.kind == Kind::Passed {
+        count_skip(made, met);
     }
-    let would_lead = is_another(&before, worker, Skip::StillLeading, (kind, table));
+    let would_lead = made.is_another(|table| table.orders.skip = Skip::StillLeading);
     met[5] += usize::from(would_lead);
-    met[6] += usize::from(would_lead && kind == Kind::Took);
-    met[7] += usize::from(is_another(&before, worker, Skip::ByClaim, (kind, table)));
-    kind
-}
-
-/// A wrong reading of the order gives another turn.
-fn is_another(before: &Table, worker: u32, reading: Skip, made: (Kind, &Table)) -> bool {
-    let mut other = before.clone();
-    other.by_text = true;
-    other.orders.skip = reading;
-    other.turn(worker) != made.0 || other.words != made.1.words
+    met[6] += usize::from(would_lead && made.kind == Kind::Took);
+    met[7] += usize::from(made.is_another(|table| table.orders.skip = Skip::ByClaim));
 }
 
 /// Counts the turn if it passed the rest of a failed rule.
-fn count_skip(before: &Table, after: &Table, met: &mut Met) {
+fn count_skip(made: &Made, met: &mut Counts) {
+    let (before, after) = (made.before, made.after);
     let moved = before.claims().find(|&claim| before.cursor(claim) < after.cursor(claim));
     let Some((rule, next)) = moved.and_then(|claim| before.next_literal(claim)) else { return };
     let read = &before.job.literals[rule.start..next];

@@ -2,6 +2,7 @@
 
 use oracle::checks::{Job, Refusal};
 use oracle::edges::edge_base;
+use oracle::orders::Orders;
 
 use crate::calls::{Call, Given};
 use crate::mapped::Mapped;
@@ -39,7 +40,7 @@ pub fn long_jobs(totals: &mut Totals) {
 /// Tables so long that their number of words modulo 2^32 would be too few.
 pub fn long_tables(totals: &mut Totals) {
     let base = edge_base().job_bytes();
-    let job = Job::check(&base);
+    let job = Job::check(&base, Orders::in_force());
     for length in [FOUR_GIB, FOUR_GIB + 5] {
         let mut mapped = Mapped::new(4 * length);
         // SAFETY: every word may hold any bits; the mapping begins at a page.
@@ -47,7 +48,7 @@ pub fn long_tables(totals: &mut Totals) {
         let name = format!("the edge job's table in {length} words");
         let mut words = vec![0; 2048];
         for call in [Call::Start, Call::Turn(0), Call::Run(vec![1, 0, 0, 1]), Call::Read(0), Call::Turn(2)] {
-            let expected = call.on_words(&job, &mut words, &mut totals.failed_on_tables);
+            let expected = call.on_words(&job, &mut words, &mut totals.on_tables);
             let given = call.by_library(&base, table);
             expect(totals, &name, &call, expected, given);
             if table[..2048] != words || table[length - 1024..].iter().any(|&word| word != 0) {

@@ -58,10 +58,11 @@ pub fn compare_input(totals: &mut Totals, name: &str, input: &[u8], work: usize)
     let (bytes, schedule) = part_input(input);
     totals.jobs += 1;
     let mut random = Random::new(name, 1);
-    let job = match Job::check(bytes) {
+    let job = match Job::check(bytes, Orders::in_force()) {
         Err(_) => return single::compare_refused_job(totals, name, bytes, &mut random),
         Ok(job) => job,
     };
+    totals.count_job(&job);
     let used = Layout::of_job(&job).used;
     let tail = random.pick(&[0, 0, 1, 2, 5, 40]);
     let words: Vec<u32> = (0..used + tail).map(|_| random.next() as u32).collect();

@@ -15,6 +15,8 @@ mod library;
 mod lists;
 #[path = "../compare/mapped.rs"]
 mod mapped;
+mod met;
+mod missing;
 mod others;
 mod single;
 mod totals;
@@ -23,7 +25,9 @@ use std::process::exit;
 use std::time::Instant;
 
 use arguments::{kinds_named, refuse};
+use counts::missing_unmet;
 use oracle::jobs::generate;
+use oracle::orders::Orders;
 use totals::Totals;
 
 const USAGE: &str = "\
@@ -47,7 +51,7 @@ const GATE: [(&str, u64); 16] = [
     ("words", 120),
     ("damaged", 1000),
     ("empty", 100),
-    ("edge", 160),
+    ("edge", 201),
     ("tower", 150),
     ("negloop", 30),
     ("strat", 40),
@@ -68,7 +72,7 @@ fn compare_made(totals: &mut Totals, kind: &str, from: u64, count: u64, work: us
             single::compare_words(totals, &name, seed);
             continue;
         }
-        let Some(input) = generate(kind, seed) else {
+        let Some(input) = generate(kind, seed, Orders::in_force()) else {
             eprintln!("table: no kind is called {kind}");
             exit(2);
         };
@@ -80,13 +84,14 @@ fn compare_made(totals: &mut Totals, kind: &str, from: u64, count: u64, work: us
 }
 
 /// Runs one part and says what it compared.
-fn part(all: &mut Totals, title: &str, work: impl FnOnce(&mut Totals)) {
+fn part(all: &mut Totals, title: &str, work: impl FnOnce(&mut Totals)) -> Totals {
     let start = Instant::now();
     let mut totals = Totals::default();
     work(&mut totals);
     println!(
-        "{title}: {} jobs, {} lists to their end, {} calls, {} turns, {} differences, {:.1} s",
+        "{title}: {} jobs, {} with missing records, {} lists to their end, {} calls, {} turns, {} differences, {:.1} s",
         totals.jobs,
+        totals.missing_jobs,
         totals.finished,
         totals.calls,
         totals.turns(),
@@ -94,6 +99,7 @@ fn part(all: &mut Totals, title: &str, work: impl FnOnce(&mut Totals)) {
         start.elapsed().as_secs_f64()
     );
     all.add(&totals);
+    totals
 }
 
 fn compare_lengths(all: &mut Totals) {
@@ -105,7 +111,10 @@ fn compare_gate(all: &mut Totals) {
     compare_lengths(all);
     part(all, "edge cases of orders", single::compare_order_edges);
     for (kind, count) in GATE {
-        part(all, kind, |totals| compare_made(totals, kind, 0, count, GATE_WORK));
+        let made = part(all, kind, |totals| compare_made(totals, kind, 0, count, GATE_WORK));
+        if let Some(fault) = missing_unmet(kind, made.jobs, made.missing_jobs) {
+            all.differ("the gate", &fault);
+        }
     }
     all.expect_all_met();
 }
@@ -117,7 +126,7 @@ fn main() {
     match words.as_slice() {
         [] => compare_gate(&mut all),
         ["lengths"] => compare_lengths(&mut all),
-        ["orders"] => part(&mut all, "edge cases of orders", single::compare_order_edges),
+        ["orders"] => _ = part(&mut all, "edge cases of orders", single::compare_order_edges),
         ["made", kinds, from, count, rest @ ..] => {
             let (Ok(from), Ok(count)) = (from.parse(), count.parse()) else { refuse(USAGE) };
             let work = match rest {

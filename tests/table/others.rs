@@ -2,6 +2,7 @@
 
 use oracle::checks::{Job, Refusal};
 use oracle::draft::Random;
+use oracle::orders::Orders;
 
 use crate::calls::Call;
 use crate::lists::List;
@@ -68,7 +69,7 @@ fn damaged_job(random: &mut Random, bytes: &[u8]) -> Option<(Vec<u8>, Refusal)> 
         0 => damaged.truncate(at),
         _ => damaged[at] = damaged[at].wrapping_add(random.within(1, 255) as u8),
     }
-    let refusal = Job::check(&damaged).err()?;
+    let refusal = Job::check(&damaged, Orders::in_force()).err()?;
     Some((damaged, refusal))
 }
 

@@ -23,7 +23,7 @@ struct Single<'a> {
 
 impl Single<'_> {
     fn new<'a>(name: &'a str, bytes: &'a [u8]) -> Single<'a> {
-        let job = Job::check(bytes);
+        let job = Job::check(bytes, Orders::in_force());
         let layout = job.as_ref().ok().map(Layout::of_job);
         Single { name, bytes, job, layout }
     }
@@ -31,7 +31,7 @@ impl Single<'_> {
     /// Both make the call on these words.  Answers the words it must leave.
     fn make(&self, totals: &mut Totals, how: &str, words: &[u32], call: &Call) -> Vec<u32> {
         let mut after = words.to_vec();
-        let expected = call.on_words(&self.job, &mut after, &mut totals.failed_on_tables);
+        let expected = call.on_words(&self.job, &mut after, &mut totals.on_tables);
         totals.count(call, &expected, self.layout.as_ref());
         let mut lent = Lent::new(words);
         let given = call.by_library(self.bytes, lent.table(words.len()));
@@ -63,6 +63,7 @@ pub fn compare_table(totals: &mut Totals, name: &str, input: &[u8]) {
     let mut words: Vec<u32> = rest.chunks_exact(4).map(|word| word_at(word, 0)).collect();
     let single = Single::new(name, bytes);
     let job = single.job.as_ref().expect("a job with a table is accepted");
+    totals.count_job(job);
     let random = &mut Random::new(name, 2);
     let mut calls: Vec<Call> = (0..job.workers).map(Call::Turn).collect();
     calls.extend((0..job.claims).map(Call::Read));
@@ -82,7 +83,7 @@ pub fn compare_table(totals: &mut Totals, name: &str, input: &[u8]) {
 
 /// The edge cases of the orders in force, each a call on a table.
 pub fn compare_order_edges(totals: &mut Totals) {
-    for edge in order_edges().into_iter().filter(|edge| edge.orders == Orders::in_force()) {
+    for edge in order_edges(Orders::in_force()) {
         totals.jobs += 1;
         let call = match edge.call {
             EdgeCall::Turn(worker) => Call::Turn(worker as usize),
@@ -95,9 +96,9 @@ pub fn compare_order_edges(totals: &mut Totals) {
 /// A table in range of a small job: one that turns made, or one that none did.
 fn table_in_range(seed: u64, random: &mut Random) -> (Vec<u8>, Vec<u32>) {
     let kind = random.pick(&["tiny", "tiny", "small", "table"]);
-    let input = generate(kind, seed).expect("the kind is known");
+    let input = generate(kind, seed, Orders::in_force()).expect("the kind is known");
     let (bytes, rest) = part_input(&input);
-    let job = Job::check(bytes).expect("a made job is accepted");
+    let job = Job::check(bytes, Orders::in_force()).expect("a made job is accepted");
     if kind == "table" {
         let words = rest.chunks_exact(4).map(|word| word_at(word, 0)).collect();
         if let Ok(table) = Table::from_words(&job, Orders::in_force(), words) {
@@ -132,6 +133,7 @@ pub fn compare_words(totals: &mut Totals, name: &str, seed: u64) {
     let (bytes, words) = table_in_range(seed, random);
     let single = Single::new(name, &bytes);
     let job = single.job.as_ref().expect("a made job is accepted");
+    totals.count_job(job);
     let used = Layout::of_job(job).used;
     for at in 0..used {
         for value in all_values(words[at], job) {

@@ -1,23 +1,30 @@
 //! What was compared and what differs.
 
-use oracle::orders::{Orders, Skip};
+use oracle::checks::Job;
+use oracle::missing_sorts;
+use oracle::orders::{Missing, Orders, Skip};
 use oracle::table::Layout;
+use oracle::turns::KINDS;
 
 use crate::calls::{Call, Given};
-use crate::counts::{add, listed, unmet, KINDS};
-use crate::failed::{Met, SORTS, SORTS_OF_LISTS};
+use crate::counts::{add, listed, unmet};
+use crate::failed::{SORTS, SORTS_OF_LISTS};
+use crate::met::Met;
 
 /// At most this many differences are printed.
 const PRINTED: usize = 20;
 
 const READINGS: [&str; 5] = ["fresh", "true", "false", "undefined", "open"];
+const EXCHANGED: &str = "missing record of a false claim exchanged away";
 const PARTS: [&str; 8] =
     ["header", "opened count", "mark", "cursor", "opening number", "awaited", "answered", "question"];
 
 #[derive(Default)]
 pub struct Totals {
-    /// Jobs compared, each with a list of calls or with single tables.
+    /// Jobs compared, each with a list of calls or with single tables; those of
+    /// them with missing records.
     pub jobs: usize,
+    pub missing_jobs: usize,
     /// Lists whose questions were all answered in the end.
     pub finished: usize,
     pub calls: usize,
@@ -26,10 +33,9 @@ pub struct Totals {
     /// Refusals by number, and those of number 10 by the part of the table.
     pub refused: [usize; 13],
     pub bad_words: [usize; 8],
-    /// What turns met of failed rules, in lists from a start and on tables that
-    /// no run made.
-    pub failed_in_lists: Met,
-    pub failed_on_tables: Met,
+    /// What turns met in lists from a start and on tables that no run made.
+    pub in_lists: Met,
+    pub on_tables: Met,
     pub differences: usize,
 }
 
@@ -47,6 +53,11 @@ fn part_of(layout: &Layout, at: usize) -> usize {
 }
 
 impl Totals {
+    /// Counts a job that was accepted.
+    pub fn count_job(&mut self, job: &Job) {
+        self.missing_jobs += usize::from(job.missing_records() > 0);
+    }
+
     /// Counts a call by what the oracle says it gives.
     pub fn count(&mut self, call: &Call, expected: &Given, layout: Option<&Layout>) {
         self.calls += 1;
@@ -79,6 +90,7 @@ impl Totals {
 
     pub fn add(&mut self, other: &Totals) {
         self.jobs += other.jobs;
+        self.missing_jobs += other.missing_jobs;
         self.finished += other.finished;
         self.calls += other.calls;
         self.differences += other.differences;
@@ -86,12 +98,28 @@ impl Totals {
         add(&mut self.readings, &other.readings);
         add(&mut self.refused, &other.refused);
         add(&mut self.bad_words, &other.bad_words);
-        add(&mut self.failed_in_lists, &other.failed_in_lists);
-        add(&mut self.failed_on_tables, &other.failed_on_tables);
+        self.in_lists.add(&other.in_lists);
+        self.on_tables.add(&other.on_tables);
     }
 
-    /// The gate must meet every kind of turn, every reading, every refusal and,
-    /// under order 5, every sort of failed rule.
+    /// What the orders in force bring and was never met.
+    fn unmet_of_orders(&self) -> Vec<String> {
+        let (mut in_lists, mut on_tables) = (Vec::new(), Vec::new());
+        if Orders::in_force().missing != Missing::Off {
+            in_lists.extend(unmet(&missing_sorts::SORTS, &self.in_lists.missing.sorts));
+            on_tables.extend(unmet(&missing_sorts::SORTS, &self.on_tables.missing.sorts));
+            on_tables.extend(unmet(&[EXCHANGED], &[self.on_tables.missing.exchanged]));
+        }
+        if Orders::in_force().skip != Skip::Off {
+            in_lists.extend(unmet(&SORTS[..SORTS_OF_LISTS], &self.in_lists.failed));
+            on_tables.extend(unmet(&SORTS, &self.on_tables.failed));
+        }
+        let in_lists = in_lists.iter().map(|sort| format!("{sort} in a list"));
+        in_lists.chain(on_tables.iter().map(|sort| format!("{sort} on a table"))).collect()
+    }
+
+    /// The gate must meet every kind of turn, every reading, every refusal, and
+    /// every sort of missing record and failed rule where their orders are in force.
     pub fn expect_all_met(&mut self) {
         let refusals: Vec<String> = (1..=12).map(|number| format!("refusal {number}")).collect();
         let refusals: Vec<&str> = refusals.iter().map(String::as_str).collect();
@@ -99,11 +127,7 @@ impl Totals {
         missing.extend(unmet(&READINGS, &self.readings));
         missing.extend(unmet(&refusals, &self.refused[1..]));
         missing.extend(unmet(&PARTS, &self.bad_words));
-        if Orders::in_force().skip != Skip::Off {
-            let in_lists = unmet(&SORTS[..SORTS_OF_LISTS], &self.failed_in_lists);
-            missing.extend(in_lists.iter().map(|sort| format!("{sort} in a list")));
-            missing.extend(unmet(&SORTS, &self.failed_on_tables).iter().map(|sort| format!("{sort} on a table")));
-        }
+        missing.extend(self.unmet_of_orders());
         for name in missing {
             self.differ("the gate", &format!("{name} was never met"));
         }
@@ -116,14 +140,21 @@ impl Totals {
         let rows: Vec<String> = (1..=12).map(|number| format!("{number}: {}", self.refused[number])).collect();
         println!("refused by number {}", rows.join(", "));
         println!("refused by 10 at: {}", listed(&PARTS, &self.bad_words));
-        println!("failed rules in lists: {}", listed(&SORTS, &self.failed_in_lists));
-        println!("failed rules on tables that no run made: {}", listed(&SORTS, &self.failed_on_tables));
+        println!("failed rules in lists: {}", listed(&SORTS, &self.in_lists.failed));
+        println!("failed rules on tables that no run made: {}", listed(&SORTS, &self.on_tables.failed));
+        println!("claims completed in lists: {}", listed(&missing_sorts::SORTS, &self.in_lists.missing.sorts));
+        println!(
+            "claims completed on tables that no run made: {}, {EXCHANGED} {}",
+            listed(&missing_sorts::SORTS, &self.on_tables.missing.sorts),
+            self.on_tables.missing.exchanged
+        );
         if self.differences > 0 {
             println!("a made job alone: table made KIND SEED 1");
         }
         println!(
-            "{} jobs ({} lists to their end), {} calls with {} turns compared, {} differences",
+            "{} jobs ({} with missing records, {} lists to their end), {} calls with {} turns compared, {} differences",
             self.jobs,
+            self.missing_jobs,
             self.finished,
             self.calls,
             self.turns(),

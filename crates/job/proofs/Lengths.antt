@@ -1,6 +1,6 @@
 -- Laws of body lengths as 16-bit fields: what a length field says of a rule's literals, and of missing records. Assumes nothing.
 --   none-missing, all-written    how many literals a rule has, by its length field
---   missing-none                 a missing record has none
+--   missing-none, some-own       a missing record has none; a rule that has some is no missing record
 --   Whole r                      what a valid job's rule has, for its length field to be read back
 --   missing-read, length-read    what is read of the length field of such a rule
 --   length-small                 that field has 16 bits
@@ -32,6 +32,13 @@ module _ (s : List ℕ) (i : ℕ) where
   pub missing-none : missingAt s i ≡ true → bodyLengthAt s i ≡ 0
   unfolding missingAt
   missing-none e = none-missing (eqb-true (lengthAt s i) missingLength e)
+
+  pub some-own : 0 < bodyLengthAt s i → missingAt s i ≡ false
+  some-own h = go (missingAt s i) refl
+    where
+      go : (t : Bool) → missingAt s i ≡ t → t ≡ false
+      go true e = absurd (omega (arith, h, missing-none e))
+      go false e = refl
 
 pub record Whole (r : Rule) : Type 0 where
   pub short : length (r .body) < missingLength

@@ -1,17 +1,21 @@
 -- A body, literal by literal, as a loop tests it. Assumes nothing.
 --   holds-plain, holds-negated   whether a literal holds whose variant is known
 --   fires-stop, fires-on         a body whose first literal does not hold, and does
---   fires-missing, fires-own     a rule that is a missing record, and one that isn't
-use Prim.Native.Nat.{ℕ, _+_, _-_, _<_}
+--   fires-some, -missing, -empty   a rule with literals, a missing record, a rule without literals
+use Prim.Native.Nat.{ℕ, _+_, _-_, _<_, _≤_}
 use mathlib.Core.Path.{_≡_, refl, sym, _∙_, ap}
-use mathlib.Core.Bool.{Bool, true, false, not, cond, _&&_}
-use mathlib.Core.List.{[], _∷_}
+use mathlib.Core.Bool.{Bool, true, false, not, _&&_}
+use mathlib.Core.List.{List}
+use native.Mathlib.Omega.{arith}
 use Rattle.base.specs.Sets.{Claims}
 use Rattle.base.specs.Span.{span}
-use Rattle.base.proofs.Span.{span-one}
+use Rattle.base.proofs.Span.{span-one, span-none}
+use Rattle.job.specs.Format.{missingAt, literalAt}
+use Rattle.job.proofs.Lengths.{some-own}
 use Rattle.job.specs.declared.Literal.{Literal}
 use Rattle.job.specs.declared.Literal.the-variants.{Plain, Negated}
-use Rattle.model.specs.Model.{Body, holds, fires}
+use Rattle.model.specs.Model.{bodyOf, holds, fires}
+use Rattle.model.specs.Passes.{ruleOf, RuleRead}
 
 -- a literal whose variant is known
 pub holds-plain : (S W : Claims) (l : Literal) (c : ℕ) (r : Bool) → l ≡ Plain c → r ≡ W c → r ≡ holds S W l
@@ -31,14 +35,17 @@ module _ (S W : Claims) (f : ℕ → Literal) (k n : ℕ) (some-left : 0 < n) (l
   pub fires-on : r ≡ true → fires S W (span f k n) ≡ fires S W (span f (k + 1) (n - 1))
   fires-on e = rw (span-one f k n some-left, known, e)
 
--- a rule with head h and body b, missing or not
-module _ (S W : Claims) (h : ℕ) (b : Body) (t : Bool) where
-  last : (x : Bool) → x ≡ (x && true)
-  last true = refl
-  last false = refl
+last : (x : Bool) → x ≡ (x && true)
+last true = refl
+last false = refl
 
-  pub fires-missing : {r : Bool} → t ≡ true → r ≡ S h → not r ≡ fires S W (cond t (Negated h ∷ []) b)
-  fires-missing e q = rw e (ap not q ∙ last (not (S h)))
+-- rule i of which n was read
+module _ (S W : Claims) (s : List ℕ) (m i h k n : ℕ) (read : RuleRead s m i k n) where
+  pub fires-some : {r : Bool} → 0 < n → r ≡ fires S W (span (literalAt s m) k n) → r ≡ fires S W (bodyOf (ruleOf s m i h k n))
+  fires-some l q = rw (some-own s i (omega (arith, l, read .count))) q
 
-  pub fires-own : {r : Bool} → t ≡ false → r ≡ fires S W b → r ≡ fires S W (cond t (Negated h ∷ []) b)
-  fires-own e q = rw e q
+  pub fires-missing : {t r : Bool} → t ≡ missingAt s i → t ≡ true → r ≡ S h → not r ≡ fires S W (bodyOf (ruleOf s m i h k n))
+  fires-missing z e q = rw (sym z ∙ e) (ap not q ∙ last (not (S h)))
+
+  pub fires-empty : {t : Bool} → n ≤ 0 → t ≡ missingAt s i → t ≡ false → true ≡ fires S W (bodyOf (ruleOf s m i h k n))
+  fires-empty l z e = rw (sym z ∙ e, span-none (literalAt s m) k n l)

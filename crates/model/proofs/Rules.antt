@@ -16,11 +16,11 @@ use Rattle.base.specs.Sets.{Claims}
 use Rattle.base.specs.Span.{span}
 use Rattle.base.proofs.Span.{span-none, span-one}
 use Rattle.job.specs.Job.{Rule, mostClaims}
-use Rattle.job.specs.Format.{claims, rules, ruleByte, literalByte, headAt, missingAt, bodyLengthAt, bodyStart, ruleAt, jobOf}
+use Rattle.job.specs.Format.{claims, rules, ruleByte, literalByte, headAt, bodyLengthAt, bodyStart, ruleAt, jobOf}
 use Rattle.job.specs.Accepted.{WellFormed}
 use Rattle.job.proofs.Parts.{body-within}
 use Rattle.model.specs.Model.{program, Verdict, knownOf}
-use Rattle.model.specs.Passes.{Passed, keepOne, kept, ruleOf, givenProgram}
+use Rattle.model.specs.Passes.{Passed, keepOne, kept, ruleOf, RuleRead, givenProgram}
 use Rattle.model.proofs.Partway.{Partway, partway-start, partway-more, partway-done}
 
 -- the claims fit the room that is kept for them
@@ -39,6 +39,9 @@ module _ (s : List ℕ) (good : WellFormed s) where
     pub body-room : (m k n : ℕ) → m ≡ rules s → k ≡ bodyStart s i → n ≡ bodyLengthAt s i → literalByte m (k + n) ≤ length s
     body-room m k n em ek en = omega (arith, good .sized .size, good .bodies, body-within s i (rules s) more)
 
+    pub rule-was-read : (m k n : ℕ) → m ≡ rules s → k ≡ bodyStart s i → n ≡ bodyLengthAt s i → RuleRead s m i k n
+    rule-was-read m k n em ek en = record { there = rule-room; count = en; literals = body-room m k n em ek en }
+
 pub body-first : (s : List ℕ) → bodyStart s 0 ≡ 0
 unfolding bodyStart
 body-first s = refl
@@ -49,10 +52,10 @@ keep-append (some v) r rs = refl
 
 -- the rule whose head and body were read
 rule-read :
-    (s : List ℕ) (m m′ i h k n : ℕ) (a : Bool) → m′ ≡ m → h ≡ headAt s i → k ≡ bodyStart s i → n ≡ bodyLengthAt s i → a ≡ missingAt s i
-    → ruleOf s m′ h k n a ≡ ruleAt s m i
+    (s : List ℕ) (m m′ i h k n : ℕ) → m′ ≡ m → h ≡ headAt s i → k ≡ bodyStart s i → n ≡ bodyLengthAt s i
+    → ruleOf s m′ i h k n ≡ ruleAt s m i
 unfolding ruleAt
-rule-read s m m′ i h k n a e b c d f = rw (e, b, c, d, f)
+rule-read s m m′ i h k n a b c d = rw (a, b, c, d)
 
 abbrev pub toCome : List ℕ → List ℕ → ℕ → List Rule
 toCome s g i = kept (knownOf g) (span (ruleAt s (rules s)) i (rules s - i))
@@ -75,16 +78,16 @@ rules-one s g i r e h =
     ap (kept (knownOf g)) (span-one f i (rules s - i) (omega arith) ∙ ap₂ (λ (x : Rule) (y : ℕ). x ∷ span f (i + 1) y) (sym e) n)
     ∙ keep-append (knownOf g (r .head)) r (toCome s g (i + 1))
 
--- h, k, n and a are what was read of rule i, t whether it added its head
+-- h, k and n are what was read of rule i, t whether it added its head
 pub pass-more :
-    (S : Claims) (s g w₀ w w′ : List ℕ) (all : List Rule) (b t b′ : Bool) (m i h k n : ℕ) (a : Bool)
+    (S : Claims) (s g w₀ w w′ : List ℕ) (all : List Rule) (b t b′ : Bool) (m i h k n : ℕ)
     → Partway S w₀ all b w (toCome s g i) → i < rules s → m ≡ rules s → h ≡ headAt s i → k ≡ bodyStart s i
-    → n ≡ bodyLengthAt s i → a ≡ missingAt s i
-    → Passed S w (kept (knownOf g) (ruleOf s m h k n a ∷ [])) t w′ → b′ ≡ (b || t)
+    → n ≡ bodyLengthAt s i
+    → Passed S w (kept (knownOf g) (ruleOf s m i h k n ∷ [])) t w′ → b′ ≡ (b || t)
     → Partway S w₀ all b′ w′ (toCome s g (i + 1))
-pass-more S s g w₀ w w′ all b t b′ m i h k n a so-far more em eh ek en ea passed flag =
+pass-more S s g w₀ w w′ all b t b′ m i h k n so-far more em eh ek en passed flag =
     partway-more S w₀ all b w (toCome s g i) so-far _ (toCome s g (i + 1)) t b′ w′
-    (rules-one s g i _ (rule-read s (rules s) m i h k n a em eh ek en ea) more) passed flag
+    (rules-one s g i _ (rule-read s (rules s) m i h k n em eh ek en) more) passed flag
 
 pub pass-done :
     (S : Claims) (s g w₀ w : List ℕ) (all : List Rule) (b : Bool) (i : ℕ) → Partway S w₀ all b w (toCome s g i)

@@ -9,11 +9,12 @@
 --   rulesFor c v          the rules that the known verdict of claim c stands for
 --   rulesBelow known n    those of the claims below n
 --   exchanged A known rs  the exchanged program, as a list of rules
---   ruleOf s m h k n t    the rule with head h and n literals from literal k on, missing or not (t), of a job of bytes s with m rules
+--   ruleOf s m i h k n    rule i with head h and n literals from literal k on, missing or not, of a job of bytes s with m rules
+--   RuleRead s m i k n    n was read of rule i, whose literals from k on are in the job
 --   ownRules s g          the rules of the job of bytes s, of claims whose verdict is not known by bytes g
 --   knownRules g          the rules that the verdicts known by bytes g stand for
 --   givenProgram s g      the program of the job of bytes s, exchanged by the known verdicts of bytes g
-use Prim.Native.Nat.{ℕ, zero, suc}
+use Prim.Native.Nat.{ℕ, zero, suc, _+_, _≤_}
 use mathlib.Core.Path.{_≡_}
 use mathlib.Core.Bool.{Bool, false, not, cond, _&&_, _||_}
 use mathlib.Core.List.{List, [], _∷_, _++_}
@@ -23,7 +24,7 @@ use lib.ListN.{length, set, getD}
 use Rattle.base.specs.Sets.{Claims}
 use Rattle.base.specs.Span.{span}
 use Rattle.job.specs.Job.{Rule, _if_}
-use Rattle.job.specs.Format.{literalAt, jobOf}
+use Rattle.job.specs.Format.{ruleByte, literalByte, missingAt, bodyLengthAt, literalAt, jobOf}
 use Rattle.job.specs.declared.Literal.the-variants.{Negated}
 use Rattle.model.specs.Model.{Program, bodyOf, programOf, fires, Verdict, True, False, Undefined, exchange, knownOf}
 
@@ -69,8 +70,13 @@ rulesBelow known (suc n) = rulesFor n (known n) ++ rulesBelow known n
 abbrev pub exchanged : ℕ → (ℕ → Option Verdict) → List Rule → List Rule
 exchanged A known rs = kept known rs ++ rulesBelow known A
 
-abbrev pub ruleOf : List ℕ → ℕ → ℕ → ℕ → ℕ → Bool → Rule
-ruleOf s m h k n t = record { head = h; body = span (literalAt s m) k n; missing = t }
+abbrev pub ruleOf : List ℕ → ℕ → ℕ → ℕ → ℕ → ℕ → Rule
+ruleOf s m i h k n = record { head = h; body = span (literalAt s m) k n; missing = missingAt s i }
+
+pub record RuleRead (s : List ℕ) (m i k n : ℕ) : Type 0 where
+  pub there : ruleByte i + 4 ≤ length s
+  pub count : n ≡ bodyLengthAt s i
+  pub literals : literalByte m (k + n) ≤ length s
 
 abbrev pub ownRules : List ℕ → List ℕ → List Rule
 ownRules s g = kept (knownOf g) (jobOf s .rules)

@@ -10,7 +10,7 @@ ghost use Rattle.base.specs.Span.{span};
 ghost use Rattle.job.specs.Accepted.{WellFormed};
 ghost use Rattle.job.specs.Format.{claims, literalByte, literalAt};
 ghost use Rattle.model.specs.Model.{bodyOf, holds, fires, D, verdictOf, knownOf};
-ghost use Rattle.model.specs.Passes.{setOf, Passed, kept, rulesFor, ruleOf, ownRules, knownRules, givenProgram};
+ghost use Rattle.model.specs.Passes.{setOf, Passed, kept, rulesFor, ruleOf, RuleRead, ownRules, knownRules, givenProgram};
 use crate::FALSE;
 use crate::TRUE;
 use crate::UNKNOWN;
@@ -46,40 +46,44 @@ fn body_fires(job: &[u8], rules: usize, k: usize, n: usize, s: &[u8], w: &[u8]) 
     true
 }
 
-// Whether the rule with this head and n literals from literal k on fires: a missing record does where its head is not in s.
+// Whether rule i fires, which has this head and n literals from literal k on. A missing record does where its head is not in s; only a
+// rule without literals can be one.
 fn rule_fires(
     job: &[u8],
     rules: usize,
+    i: usize,
     head: usize,
     k: usize,
     n: usize,
-    missing: bool,
     s: &[u8],
     w: &[u8],
 ) -> bool
-    requires { ⌜ literalByte rules (k + n) ≤ length (now job) ⌝ }
-    ensures { λ r. ⌜ r ≡ fires (setOf (now (s .entry))) (setOf (now (w .entry))) (bodyOf (ruleOf (now (job .entry)) rules head k n missing)) ⌝ }
+    requires { ⌜ RuleRead (now job) rules i k n ⌝ }
+    ensures { λ r. ⌜ r ≡ fires (setOf (now (s .entry))) (setOf (now (w .entry))) (bodyOf (ruleOf (now (job .entry)) rules i head k n)) ⌝ }
 {
-    if missing {
+    if 0 < n {
+        return body_fires(job, rules, k, n, s, w);
+    }
+    if format::missing_at(job, i) {
         return !sets::member(s, head);
     }
-    body_fires(job, rules, k, n, s, w)
+    true
 }
 
-// Tries the rule with this head and n literals from literal k on, unless the head's verdict is known. Whether it added its head to w.
+// Tries rule i, which has this head and n literals from literal k on, unless the head's verdict is known. Whether it added its head to w.
 fn try_rule(
     job: &[u8],
     known: &[u8],
     rules: usize,
+    i: usize,
     head: usize,
     k: usize,
     n: usize,
-    missing: bool,
     s: &[u8],
     w: &mut [u8],
 ) -> bool
-    requires { ⌜ literalByte rules (k + n) ≤ length (now job) ⌝ }
-    ensures { λ r. ⌜ Passed (setOf (now (s .entry))) (now (w .entry)) (kept (knownOf (now (known .entry))) (ruleOf (now (job .entry)) rules head k n missing ∷ [])) r (now (w .exit)) ⌝ }
+    requires { ⌜ RuleRead (now job) rules i k n ⌝ }
+    ensures { λ r. ⌜ Passed (setOf (now (s .entry))) (now (w .entry)) (kept (knownOf (now (known .entry))) (ruleOf (now (job .entry)) rules i head k n ∷ [])) r (now (w .exit)) ⌝ }
 {
     if sets::member(known, head) {
         return false;
@@ -90,7 +94,7 @@ fn try_rule(
     if w[head] != 0 {
         return false;
     }
-    if !rule_fires(job, rules, head, k, n, missing, s, w) {
+    if !rule_fires(job, rules, i, head, k, n, s, w) {
         return false;
     }
     w[head] = 1;
@@ -109,8 +113,7 @@ fn pass(job: &[u8], known: &[u8], s: &[u8], w: &mut [u8]) -> bool
     while i < rules {
         let head = format::head_at(job, i);
         let n = format::body_length_at(job, i);
-        let missing = format::missing_at(job, i);
-        if try_rule(job, known, rules, head, k, n, missing, s, w) {
+        if try_rule(job, known, rules, i, head, k, n, s, w) {
             changed = true;
         }
         k += n;

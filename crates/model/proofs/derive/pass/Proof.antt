@@ -9,7 +9,7 @@ use Rattle.job.specs.Format.{bodyStart, jobOf}
 use Rattle.job.proofs.Parts.{bodyStart-next}
 use Rattle.model.specs.Passes.{setOf, kept}
 use Rattle.model.specs.Model.{knownOf}
-use Rattle.model.proofs.Rules.{header-room, rule-room, body-room, body-first, toCome, pass-start, pass-more, pass-done}
+use Rattle.model.proofs.Rules.{header-room, rule-room, body-room, rule-was-read, body-first, toCome, pass-start, pass-more, pass-done}
 use Rattle.model.proofs.Partway.{Partway, flag-on, flag-off}
 use Rattle.model.proofs.derive.pass.Statement.{statement}
 use Rattle.model.proofs.derive.pass.Tie as tie
@@ -39,25 +39,20 @@ body-length-at-requires c κs =
     rule-room _ (c .before .before .before .before .before .before .before .before .pre) _
     (omega (arith, c .before .before .before .rule-count .ensures .value))
 
-missing-at-requires : tie.Need-missing-at-requires Inv-loop μ-loop
-missing-at-requires c κs =
-    rule-room _ (c .before .before .before .before .before .before .before .before .before .pre) _
-    (omega (arith, c .before .before .before .before .rule-count .ensures .value))
-
 try-rule-requires : tie.Need-try-rule-requires Inv-loop μ-loop
 try-rule-requires c κs =
-    let c₁ = c .before .before .before .before .before in
+    let c₁ = c .before .before .before .before in
     let c₂ = c₁ .before in
     let c₃ = c₂ .before .before .before .before .before in
     let good = c₃ .pre in
     let l = c₁ .loop in
     let m = c₂ .rule-count .ensures .value in
-    let n = c .before .before .body-length-at .ensures .value in
-    body-room _ good (l .i) (omega (arith, m)) _ _ _ m (l .inv .1) n
+    let n = c .before .body-length-at .ensures .value in
+    rule-was-read _ good (l .i) (omega (arith, m)) _ _ _ m (l .inv .1) n
 
 add-k : tie.Need-add-k Inv-loop μ-loop
 add-k c =
-    let c₁ = c .before .before .before .before .before .before in
+    let c₁ = c .before .before .before .before .before in
     let c₂ = c₁ .before .before .before in
     let c₃ = c₂ .before in
     let c₄ = c₃ .before .before .before .before .before in
@@ -75,8 +70,7 @@ loop-less c = omega arith
 
 loop-again : tie.Need-loop-again Inv-loop μ-loop
 loop-again c =
-    let c₀ = c .before .before .before .before .before in
-    let c₁ = c₀ .before in
+    let c₁ = c .before .before .before .before .before in
     let c₂ = c₁ .before in
     let c₃ = c₂ .before .before in
     let c₄ = c₃ .before in
@@ -87,7 +81,7 @@ loop-again c =
     let tried = c .before .before .before .try-rule .ensures in (
       omega arith,
       ap₂ _+_ (l .inv .1) n ∙ sym (bodyStart-next _ _),
-      pass-more _ _ _ _ _ _ _ _ _ _ _ _ _ _ _ _ (l .inv .2) (omega (arith, m)) m head (l .inv .1) n (c₀ .missing-at .ensures) tried
+      pass-more _ _ _ _ _ _ _ _ _ _ _ _ _ _ _ (l .inv .2) (omega (arith, m)) m head (l .inv .1) n tried
           (⊎-elim (λ x. flag-on (l .changed) _ _ (x .0 .taken) (x .1)) (λ x. flag-off (l .changed) _ _ (x .0 .left) (x .1)) (c .if1 .came)),
     )
 
@@ -107,7 +101,6 @@ pass-spec =
     loop-holds
     head-at-requires
     body-length-at-requires
-    missing-at-requires
     try-rule-requires
     add-k
     add-i
