@@ -4,6 +4,7 @@
 use oracle::checks::{part_input, Job};
 use oracle::jobs::generate;
 use oracle::orders::Orders;
+use oracle::turns::run_listing;
 
 /// A made field: the job, then the schedule.
 pub fn made(kind: &str, seed: u64) -> Vec<u8> {
@@ -14,7 +15,7 @@ pub fn job_of(bytes: &[u8]) -> Job {
     Job::check(bytes, Orders::in_force()).expect("a made field is accepted")
 }
 
-/// Kinds and the seeds of their fields.  The large ones are of all eight shapes.
+/// Kinds and seeds of the fields that are evaluated.  The large ones are of all eight shapes.
 const EVALUATED: [(&str, &[u64]); 11] = [
     ("tiny", &[1, 2, 3]),
     ("small", &[1, 2, 3]),
@@ -33,4 +34,47 @@ const EVALUATED: [(&str, &[u64]); 11] = [
 pub fn evaluated_fields() -> impl Iterator<Item = (&'static str, u64, Vec<u8>)> {
     let fields = EVALUATED.into_iter().flat_map(|(kind, seeds)| seeds.iter().map(move |&seed| (kind, seed)));
     fields.map(|(kind, seed)| (kind, seed, part_input(&made(kind, seed)).0.to_vec()))
+}
+
+/// Kinds and seeds of the fields that are run.
+const RUN: [(&str, &[u64]); 12] = [
+    ("tiny", &[1, 2, 3]),
+    ("small", &[1, 2, 3]),
+    ("ring", &[1, 2, 3, 4]),
+    ("negloop", &[1, 2, 3, 4]),
+    ("chain", &[1, 2, 3, 4]),
+    ("strat", &[1, 2, 3, 4]),
+    ("random", &[1, 2, 3, 4]),
+    ("cluster", &[1, 2, 3, 4]),
+    ("tower", &[1, 2, 3, 4]),
+    ("failing", &[26, 36, 37, 44]),
+    ("large", &[0, 1, 3, 4]),
+    ("empty", &[1, 2]),
+];
+
+/// A field: its job, and a schedule after which all is answered.
+pub struct Field {
+    pub kind: &'static str,
+    pub seed: u64,
+    pub bytes: Vec<u8>,
+    pub schedule: Vec<u8>,
+}
+
+/// The made schedule, then workers in turn until all is answered.
+fn whole_schedule(job: &Job, made: &[u8]) -> Vec<u8> {
+    let mut schedule = Vec::new();
+    run_listing(job, Orders::in_force(), made, false, |_, worker, _| schedule.push(worker as u8));
+    schedule
+}
+
+fn make_field(kind: &'static str, seed: u64) -> Field {
+    let input = made(kind, seed);
+    let (bytes, made) = part_input(&input);
+    Field { kind, seed, bytes: bytes.to_vec(), schedule: whole_schedule(&job_of(bytes), made) }
+}
+
+/// The fields on which runs are timed, of the kinds that are wanted.
+pub fn run_fields(wanted: impl Fn(&str) -> bool) -> impl Iterator<Item = Field> {
+    let fields = RUN.into_iter().filter(move |(kind, _)| wanted(kind));
+    fields.flat_map(|(kind, seeds)| seeds.iter().map(move |&seed| make_field(kind, seed)))
 }

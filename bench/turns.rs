@@ -10,50 +10,11 @@ mod library;
 #[allow(dead_code)]
 mod times;
 
-use fields::{job_of, made};
-use oracle::checks::{part_input, Job};
+use fields::{job_of, run_fields, Field};
+use oracle::checks::Job;
 use oracle::orders::Orders;
 use oracle::table::{Layout, Table};
-use oracle::turns::run_listing;
 use times::{median_times, ratio, show_spread};
-
-/// Kinds and the seeds of their fields.
-const FIELDS: [(&str, &[u64]); 12] = [
-    ("tiny", &[1, 2, 3]),
-    ("small", &[1, 2, 3]),
-    ("ring", &[1, 2, 3, 4]),
-    ("negloop", &[1, 2, 3, 4]),
-    ("chain", &[1, 2, 3, 4]),
-    ("strat", &[1, 2, 3, 4]),
-    ("random", &[1, 2, 3, 4]),
-    ("cluster", &[1, 2, 3, 4]),
-    ("tower", &[1, 2, 3, 4]),
-    ("failing", &[26, 36, 37, 44]),
-    ("large", &[0, 1, 3, 4]),
-    ("empty", &[1, 2]),
-];
-
-/// A field: its job, and a schedule after which all is answered.
-struct Field {
-    kind: &'static str,
-    seed: u64,
-    bytes: Vec<u8>,
-    schedule: Vec<u8>,
-}
-
-/// The made schedule, then workers in turn until all is answered.
-fn whole_schedule(job: &Job, made: &[u8]) -> Vec<u8> {
-    let mut schedule = Vec::new();
-    run_listing(job, Orders::in_force(), made, false, |_, worker, _| schedule.push(worker as u8));
-    schedule
-}
-
-fn make_field(kind: &'static str, seed: u64) -> Field {
-    let input = made(kind, seed);
-    let (bytes, made) = part_input(&input);
-    let job = job_of(bytes);
-    Field { kind, seed, bytes: bytes.to_vec(), schedule: whole_schedule(&job, made) }
-}
 
 /// The library starts a table and makes the run.
 fn run_ours(field: &Field, words: &mut [u32]) -> [u64; 8] {
@@ -143,8 +104,7 @@ fn main() {
     let times_only = named.first().is_some_and(|word| word == "times");
     named.retain(|word| word != "times");
     let wanted = |kind: &str| named.is_empty() || named.iter().any(|name| name == kind);
-    let fields = FIELDS.into_iter().filter(|(kind, _)| wanted(kind));
-    let fields = fields.flat_map(|(kind, seeds)| seeds.iter().map(move |&seed| make_field(kind, seed)));
+    let fields = run_fields(wanted);
     if times_only {
         return fields.for_each(|field| print_times(&field));
     }
