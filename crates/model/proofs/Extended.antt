@@ -4,10 +4,9 @@
 --   extends-job              the extended job's program, as it stands, extends the job's (proofs/Extends)
 use Prim.Native.Nat.{ℕ, _<_}
 use mathlib.Core.Path.{_≡_, refl, sym, _∙_, ap, subst, subst⁻¹}
-use mathlib.Core.Bool.{Bool, true, false, cond}
-use mathlib.Core.List.{List, [], _∷_, _++_, map, List·Memᴰ, List·Memᴰ·head, List·Memᴰ·tail, List·Memᴰ·not-nil, List·Memᴰ·cases-cons, List·Memᴰ·append-cases, List·Memᴰ·eq-of-singleton, Memᴰ·append-left, Memᴰ·append-right}
+use mathlib.Core.Bool.{Bool, true, false}
+use mathlib.Core.List.{List, [], _∷_, map, List·Memᴰ·head, List·Memᴰ·tail, List·Memᴰ·not-nil, List·Memᴰ·cases-cons, List·Memᴰ·append-cases, List·Memᴰ·eq-of-singleton, Memᴰ·append-left, Memᴰ·append-right}
 use mathlib.Core.Logic.{_⊎_, inl, inr, ⊎-elim}
-use mathlib.Core.Option.{none}
 use native.Mathlib.Omega.{arith}
 use Rattle.job.specs.Job.{Rule, Job, claimOf, _if_}
 use Rattle.job.specs.Encoding.{_∈_, Valid}
@@ -15,7 +14,7 @@ use Rattle.job.specs.declared.Literal.{Literal}
 use Rattle.job.specs.declared.Literal.the-variants.{Plain, Negated}
 use Rattle.model.specs.Model.{Body, bodyOf, bodiesBy, program, programOf}
 use Rattle.model.specs.Missing.{extendedRule, extended, asWritten, Extension}
-use Rattle.model.proofs.Bodies.{RuleBy, bodies-at, bodies-out}
+use Rattle.model.proofs.Bodies.{bodies-at, bodies-out}
 use Rattle.model.proofs.Extends.{Extends, extends-verdict, extends-undefined, exchange-extends}
 
 module _ {A B : Type 0} (f : A → B) where

@@ -3,24 +3,22 @@
 --   kept             a claim with a missing record is in U
 --   missingRecords   the theorem; missing-of   of the job of accepted bytes
 use Prim.Native.Nat.{ℕ, _<_}
-use mathlib.Core.Path.{_≡_, refl, sym, _∙_, ap, ap₂, subst, subst⁻¹, fun-ext}
-use mathlib.Core.Bool.{Bool, false, cond}
+use mathlib.Core.Path.{_≡_, refl, _∙_, ap, ap₂, subst, subst⁻¹, fun-ext}
+use mathlib.Core.Bool.{false, cond}
 use mathlib.Core.List.{List, [], _∷_, List·Memᴰ·head, List·Memᴰ·tail}
-use mathlib.Core.Logic.{by-cases}
 use lib.Dec.{T, eqb}
 use Rattle.base.specs.Sets.{Claims}
-use Rattle.base.proofs.Choose.{t?}
 use Rattle.job.specs.Job.{Rule, Job}
 use Rattle.job.specs.Encoding.{_∈_, Valid}
 use Rattle.job.specs.Format.{jobOf}
 use Rattle.job.specs.Accepted.{WellFormed}
 use Rattle.job.proofs.Valid.{well-formed-valid}
 use Rattle.job.specs.declared.Literal.the-variants.{Plain, Negated}
-use Rattle.model.specs.Model.{Body, bodyOf, bodiesBy, Program, program, programOf, step, D, K, U, True, False, Undefined, verdict}
-use Rattle.model.specs.Missing.{Missing, asWritten, HeldBy, MissingClaims, NoneMissing, MissingRecords}
+use Rattle.model.specs.Model.{Body, bodyOf, bodiesBy, Program, program, programOf, step, K, U}
+use Rattle.model.specs.Missing.{Missing, HeldBy, MissingClaims, NoneMissing, MissingRecords}
 use Rattle.model.proofs.Bodies.{bodies-at, bodies-out}
 use Rattle.model.proofs.LeastSet.{step-of, step-by, D-closed, D-step}
-use Rattle.model.proofs.Alternation.{K-fix, U-fix, K⊆U, verdict-true, verdict-false, verdict-undefined}
+use Rattle.model.proofs.Alternation.{K-fix, K⊆U, verdict-true, verdict-false, verdict-undefined}
 use Rattle.model.proofs.Extends.{negation-holds}
 use Rattle.model.proofs.Extended.{either, body-missing, body-own, extension}
 

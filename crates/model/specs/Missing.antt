@@ -1,5 +1,6 @@
 -- Missing records (02, order 2): "the job so extended", in the order's words, and what holds of the verdicts of a valid job (proofs/Missing).
 -- The model reads such a record as its head's own negation (specs/Model: bodyOf); that this is what the order says is Extension.
+-- A missing record: a rule whose body is undefined, `c :- undefined` in tabled Prologs.
 --   Missing j c         claim c has a missing record
 --   extendedRule u r    rule r; a missing record is the rule of its head whose only literal is u
 --   extended j          the job so extended: one claim more, u, whose only rule is its own negation, and each rule so
