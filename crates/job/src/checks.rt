@@ -4,6 +4,7 @@ ghost use Prim.Native.Nat.{_≤_};
 ghost use lib.ListN.{length};
 ghost use Rattle.job.specs.Format.{rules, literals, bodyStart};
 ghost use Rattle.job.specs.Accepted.{Sized};
+ghost use Rattle.job.specs.Encoding.{Reading};
 ghost use Rattle.job.specs.Checks.{checkLength, checkTotal, checkCounts, checkOffsets, checkHeads, checkBodies, checkLiterals, checkQuestions, checkHeader, checkParts, checkJob};
 use crate::Check;
 use crate::bytes;
@@ -247,9 +248,10 @@ fn check_parts(job: &[u8]) -> Check
     check_questions(job)
 }
 
-// Rows 1 to 8, in their order.
+// Rows 1 to 8, in their order. Accepted are exactly the encodings of valid jobs, and an encoding reads back.
 pub fn check_job(job: &[u8]) -> Check
     ensures { λ r. ⌜ r ≡ checkJob (now (job .entry)) ⌝ }
+    ensures { λ r. ⌜ Reading ⌝ }
 {
     let header = check_header(job);
     if let Check::Refused {

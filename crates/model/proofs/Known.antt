@@ -96,42 +96,33 @@ module _ (S : Claims) (w : List ℕ) (x c : ℕ) where
   pub settle-two : x ≡ 2 → Passed S w (rulesFor c (verdictOf x)) false w
   settle-two e = passed-none S w (rulesFor c (verdictOf x)) (ap (rulesFor c) (verdict-false x e))
 
-  rule : Body → Rule
-  rule b = c if b
-
-  no-add : (x ≡ 0 → ⊥) → (x ≡ 2 → ⊥) → ((b : Body) → false ≡ adds S w (rule b)) → Passed S w (rulesFor c (verdictOf x)) false w
-  unfolding rule
+  no-add : (x ≡ 0 → ⊥) → (x ≡ 2 → ⊥) → ((b : Body) → false ≡ adds S w (c if b)) → Passed S w (rulesFor c (verdictOf x)) false w
   no-add n₀ n₂ no-b =
       by-cases (ℕ-discrete x 1)
-      (λ e. passed-one S w (rulesFor c (verdictOf x)) (rule []) false (ap (rulesFor c) (verdict-true x e)) (no-b []))
-      (λ n₁. passed-one S w (rulesFor c (verdictOf x)) (rule (Negated c ∷ [])) false (ap (rulesFor c) (verdict-undefined x n₀ n₁ n₂)) (no-b (Negated c ∷ [])))
+      (λ e. passed-one S w (rulesFor c (verdictOf x)) (c if []) false (ap (rulesFor c) (verdict-true x e)) (no-b []))
+      (λ n₁. passed-one S w (rulesFor c (verdictOf x)) (c if Negated c ∷ []) false (ap (rulesFor c) (verdict-undefined x n₀ n₁ n₂)) (no-b (Negated c ∷ [])))
 
   pub settle-outside : (x ≡ 0 → ⊥) → (x ≡ 2 → ⊥) → length w ≤ c → Passed S w (rulesFor c (verdictOf x)) false w
-  unfolding rule
-  settle-outside n₀ n₂ h = no-add n₀ n₂ (λ b. sym (adds-outside S w (rule b) h))
+  settle-outside n₀ n₂ h = no-add n₀ n₂ (λ b. sym (adds-outside S w (c if b) h))
 
   pub settle-there : (x ≡ 0 → ⊥) → (x ≡ 2 → ⊥) → (getD w c 0 ≡ 0 → ⊥) → Passed S w (rulesFor c (verdictOf x)) false w
-  unfolding rule
-  settle-there n₀ n₂ h = no-add n₀ n₂ (λ b. sym (adds-there S w (rule b) h))
+  settle-there n₀ n₂ h = no-add n₀ n₂ (λ b. sym (adds-there S w (c if b) h))
 
   pub settle-true : x ≡ 1 → c < length w → getD w c 0 ≡ 0 → Passed S w (rulesFor c (verdictOf x)) true (set w c 1)
-  unfolding rule
   settle-true e h z =
-      passed-one S w (rulesFor c (verdictOf x)) (rule []) true (ap (rulesFor c) (verdict-true x e)) (sym (adds-new S w (rule []) h z refl))
+      passed-one S w (rulesFor c (verdictOf x)) (c if []) true (ap (rulesFor c) (verdict-true x e)) (sym (adds-new S w (c if []) h z refl))
 
   pub settle-against : (x ≡ 0 → ⊥) → (x ≡ 1 → ⊥) → (x ≡ 2 → ⊥) → S c ≡ true → Passed S w (rulesFor c (verdictOf x)) false w
-  unfolding rule
   settle-against n₀ n₁ n₂ e =
-      passed-one S w (rulesFor c (verdictOf x)) (rule (Negated c ∷ [])) false (ap (rulesFor c) (verdict-undefined x n₀ n₁ n₂))
-      (sym (adds-silent S w (rule (Negated c ∷ [])) (rw e)))
+      passed-one S w (rulesFor c (verdictOf x)) (c if Negated c ∷ []) false (ap (rulesFor c) (verdict-undefined x n₀ n₁ n₂))
+      (sym (adds-silent S w (c if Negated c ∷ []) (rw e)))
 
   pub settle-undefined :
       (x ≡ 0 → ⊥) → (x ≡ 1 → ⊥) → (x ≡ 2 → ⊥) → S c ≡ false → c < length w → getD w c 0 ≡ 0
       → Passed S w (rulesFor c (verdictOf x)) true (set w c 1)
-  unfolding rule
   settle-undefined n₀ n₁ n₂ e h z =
-      passed-one S w (rulesFor c (verdictOf x)) (rule (Negated c ∷ [])) true (ap (rulesFor c) (verdict-undefined x n₀ n₁ n₂))
-      (sym (adds-new S w (rule (Negated c ∷ [])) h z (rw e)))
+      passed-one S w (rulesFor c (verdictOf x)) (c if Negated c ∷ []) true (ap (rulesFor c) (verdict-undefined x n₀ n₁ n₂))
+      (sym (adds-new S w (c if Negated c ∷ []) h z (rw e)))
 
 -- from the last claim down
 pub below-none : (known : ℕ → Option Verdict) (n : ℕ) → n ≤ 0 → rulesBelow known n ≡ []

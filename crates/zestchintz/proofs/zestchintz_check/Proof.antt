@@ -16,10 +16,10 @@ code-of-requires : tie.Need-code-of-requires
 code-of-requires c κs =
     let s = c .before .before .args .job .now in
     let short : length s < 9223372036854775808 = omega arith in
-    subst⁻¹ (Answered s) (c .check-job .ensures) (job-answered s short)
+    subst⁻¹ (Answered s) (c .check-job .ensures .0) (job-answered s short)
 
 returns : tie.Need-returns
-returns c = c .code-of .ensures ∙ ap (codeOf _) (c .before .check-job .ensures)
+returns c = c .code-of .ensures ∙ ap (codeOf _) (c .before .check-job .ensures .0)
 
 pub zestchintz-check-spec : {M : Type 1} → statement M
 zestchintz-check-spec = tie.close (tie.spec check-job-requires code-of-requires returns)

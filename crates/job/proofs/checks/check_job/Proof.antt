@@ -3,6 +3,7 @@ use mathlib.Core.Path.{sym, _∙_}
 use borrow.Author.Needs.{needs}
 use Rattle.job.proofs.Accepted.{header-sized}
 use Rattle.job.proofs.Rows.{go, halt}
+use Rattle.job.proofs.Encoding.{reading}
 use Rattle.job.specs.Checks.{checkJob}
 use Rattle.job.proofs.checks.check_job.Statement.{statement}
 use Rattle.job.proofs.checks.check_job.Tie as tie
@@ -15,7 +16,7 @@ enum-told c = search needs
 
 returns : tie.Need-returns
 unfolding checkJob
-returns c = halt _ _ (c .enum-told .given .1) (c .before .before .check-header .ensures)
+returns c = (halt _ _ (c .enum-told .given .1) (c .before .before .check-header .ensures), reading)
 
 enum-told-2 : tie.Need-enum-told-2
 enum-told-2 c = search needs
@@ -25,7 +26,7 @@ check-parts-requires c κs = header-sized _ (sym (c .enum-told2 .given .1) ∙ c
 
 returns-2 : tie.Need-returns-2
 unfolding checkJob
-returns-2 c = go _ _ (c .before .enum-told2 .given .1) (c .before .before .before .check-header .ensures) (c .check-parts .ensures)
+returns-2 c = (go _ _ (c .before .enum-told2 .given .1) (c .before .before .before .check-header .ensures) (c .check-parts .ensures), reading)
 
 pub check-job-spec : {M : Type 1} → statement M
 check-job-spec =

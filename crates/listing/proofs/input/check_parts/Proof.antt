@@ -13,16 +13,16 @@ enum-told : tie.Need-enum-told
 enum-told c = search needs
 
 returns : tie.Need-returns
-returns c = halt _ _ (c .enum-told .given .1) (c .before .before .check-job .ensures)
+returns c = halt _ _ (c .enum-told .given .1) (c .before .before .check-job .ensures .0)
 
 enum-told-2 : tie.Need-enum-told-2
 enum-told-2 c = search needs
 
 check-schedule-requires : tie.Need-check-schedule-requires
-check-schedule-requires c κs = well-formed _ (sym (c .enum-told2 .given .1) ∙ c .before .before .check-job .ensures)
+check-schedule-requires c κs = well-formed _ (sym (c .enum-told2 .given .1) ∙ c .before .before .check-job .ensures .0)
 
 returns-2 : tie.Need-returns-2
-returns-2 c = go _ _ (c .before .enum-told2 .given .1) (c .before .before .before .check-job .ensures) (c .check-schedule .ensures)
+returns-2 c = go _ _ (c .before .enum-told2 .given .1) (c .before .before .before .check-job .ensures .0) (c .check-schedule .ensures)
 
 pub check-parts-spec : {M : Type 1} → statement M
 check-parts-spec =

@@ -23,10 +23,10 @@ enum-told : tie.Need-enum-told
 enum-told c = search needs
 
 index-claims-requires : tie.Need-index-claims-requires
-index-claims-requires c κs = well-formed _ (sym (c .enum-told .given .1) ∙ c .before .before .check-job .ensures)
+index-claims-requires c κs = well-formed _ (sym (c .enum-told .given .1) ∙ c .before .before .check-job .ensures .0)
 
 read-accepted-requires : tie.Need-read-accepted-requires
-read-accepted-requires c κs = (well-formed _ (sym (c .before .before .enum-told .given .1) ∙ c .before .before .before .before .check-job .ensures), c .before .index-claims .ensures)
+read-accepted-requires c κs = (well-formed _ (sym (c .before .before .enum-told .given .1) ∙ c .before .before .before .before .check-job .ensures .0), c .before .index-claims .ensures)
 
 returns : tie.Need-returns
 unfolding readCheck readAnswer
@@ -36,7 +36,7 @@ returns c =
     let t = c₁ .args .table .now in
     let k = c₁ .args .claim in
     let F : Check → ReadAnswer = λ x. readAnswer x t k in
-    stops-at F (checkJob s) (checkTable (jobOf s) t ⨾ checkClaimRead s k) (c .before .number .given .1) (c .before .before .before .check-job .ensures) refl
+    stops-at F (checkJob s) (checkTable (jobOf s) t ⨾ checkClaimRead s k) (c .before .number .given .1) (c .before .before .before .check-job .ensures .0) refl
 
 returns-2 : tie.Need-returns-2
 unfolding readCheck
@@ -47,7 +47,7 @@ returns-2 c =
     let t = c₂ .args .table .now in
     let k = c₂ .args .claim in
     let F : Check → ReadAnswer = λ x. readAnswer x t k in
-    goes-on F (checkJob s) (checkTable (jobOf s) t ⨾ checkClaimRead s k) (c .before .before .before .enum-told .given .1) (c₁ .check-job .ensures) (c .read-accepted .ensures)
+    goes-on F (checkJob s) (checkTable (jobOf s) t ⨾ checkClaimRead s k) (c .before .before .before .enum-told .given .1) (c₁ .check-job .ensures .0) (c .read-accepted .ensures)
 
 pub read-spec : {M : Type 1} → statement M
 read-spec =

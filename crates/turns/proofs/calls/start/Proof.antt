@@ -29,14 +29,14 @@ returns c =
     let F : Check → List ℕ = λ x. startTable x s t in
     let G : Check → Check = λ x. x in
     let e = c .enum-told .given .1 in
-    let q = c .before .before .check-job .ensures in
+    let q = c .before .before .check-job .ensures .0 in
     (stops-at G (checkJob s) (checkRoom (jobOf s) t) e q e, (stops-at F (checkJob s) (checkRoom (jobOf s) t) e q refl, promise s))
 
 enum-told-2 : tie.Need-enum-told-2
 enum-told-2 c = search needs
 
 check-room-requires : tie.Need-check-room-requires
-check-room-requires c κs = well-formed _ (sym (c .before .enum-told2 .given .1) ∙ c .before .before .before .check-job .ensures)
+check-room-requires c κs = well-formed _ (sym (c .before .enum-told2 .given .1) ∙ c .before .before .before .check-job .ensures .0)
 
 enum-told-3 : tie.Need-enum-told-3
 enum-told-3 c = search needs
@@ -55,7 +55,7 @@ returns-2 c =
     let F : Check → List ℕ = λ x. startTable x s t in
     let G : Check → Check = λ x. x in
     let a = c₁ .enum-told2 .given .1 in
-    let b = c₂ .check-job .ensures in
+    let b = c₂ .check-job .ensures .0 in
     let e = c .enum-told3 .given .1 in
     let q = c .before .before .check-room .ensures in
     (goes-on G (checkJob s) (checkRoom (jobOf s) t) a b q, (goes-on F (checkJob s) (checkRoom (jobOf s) t) a b (ap F (sym e ∙ q)), promise s))
@@ -69,7 +69,7 @@ write-start-requires c κs =
     let c₂ = c₁ .before .before in
     let c₃ = c₂ .before .before .before in
     let s = c₃ .args .job .now in
-    (well-formed _ (sym (c₁ .enum-told2 .given .1) ∙ c₂ .check-job .ensures), enough-room (jobOf s) _ (sym (c .before .enum-told4 .given .1) ∙ c .before .before .before .check-room .ensures))
+    (well-formed _ (sym (c₁ .enum-told2 .given .1) ∙ c₂ .check-job .ensures .0), enough-room (jobOf s) _ (sym (c .before .enum-told4 .given .1) ∙ c .before .before .before .check-room .ensures))
 
 same-length-2 : tie.Need-same-length-2
 same-length-2 c = search needs
@@ -87,7 +87,7 @@ returns-3 c =
     let F : Check → List ℕ = λ x. startTable x s t in
     let G : Check → Check = λ x. x in
     let a = c₃ .enum-told2 .given .1 in
-    let b = c₄ .check-job .ensures in
+    let b = c₄ .check-job .ensures .0 in
     let q = sym (c₁ .enum-told4 .given .1) ∙ c₂ .check-room .ensures in
     (goes-on G (checkJob s) (checkRoom (jobOf s) t) a b q, (goes-on F (checkJob s) (checkRoom (jobOf s) t) a b (c .before .before .write-start .ensures ∙ ap F q), promise s))
 

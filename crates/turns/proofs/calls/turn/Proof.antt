@@ -25,10 +25,10 @@ enum-told : tie.Need-enum-told
 enum-told c = search needs
 
 index-claims-requires : tie.Need-index-claims-requires
-index-claims-requires c κs = well-formed _ (sym (c .enum-told .given .1) ∙ c .before .before .check-job .ensures)
+index-claims-requires c κs = well-formed _ (sym (c .enum-told .given .1) ∙ c .before .before .check-job .ensures .0)
 
 turn-accepted-requires : tie.Need-turn-accepted-requires
-turn-accepted-requires c κs = (well-formed _ (sym (c .before .before .before .enum-told .given .1) ∙ c .before .before .before .before .before .check-job .ensures), c .before .before .index-claims .ensures)
+turn-accepted-requires c κs = (well-formed _ (sym (c .before .before .before .enum-told .given .1) ∙ c .before .before .before .before .before .check-job .ensures .0), c .before .before .index-claims .ensures)
 
 returns : tie.Need-returns
 unfolding turnCheck turnAnswer turnTable
@@ -40,7 +40,7 @@ returns c =
     let F : Check → TurnAnswer = λ x. turnAnswer x s t w in
     let G : Check → List ℕ = λ x. turnTable x s t w in
     let a = c .before .number .given .1 in
-    let b = c .before .before .before .check-job .ensures in
+    let b = c .before .before .before .check-job .ensures .0 in
     (stops-at F (checkJob s) (checkTable (jobOf s) t ⨾ checkTurnWorker s w) a b refl, stops-at G (checkJob s) (checkTable (jobOf s) t ⨾ checkTurnWorker s w) a b refl)
 
 same-length : tie.Need-same-length
@@ -58,7 +58,7 @@ returns-2 c =
     let F : Check → TurnAnswer = λ x. turnAnswer x s t w in
     let G : Check → List ℕ = λ x. turnTable x s t w in
     let a = c₁ .enum-told .given .1 in
-    let b = c₂ .check-job .ensures in
+    let b = c₂ .check-job .ensures .0 in
     let m = c .before .before .turn-accepted .ensures in
     (goes-on F (checkJob s) (checkTable (jobOf s) t ⨾ checkTurnWorker s w) a b (m .0), goes-on G (checkJob s) (checkTable (jobOf s) t ⨾ checkTurnWorker s w) a b (m .1))
 
