@@ -75,6 +75,11 @@ or-first a b p = rw p
 pub or-second : (a b : Bool) → a ≡ false → b ≡ true → (a || b) ≡ true
 or-second a b p q = rw p q
 
+-- a test that does not fail
+pub twice-not : (b : Bool) → (T (not b) → ⊥) → T b
+twice-not true n = tt
+twice-not false n = absurd (n tt)
+
 -- two tests that pass together are equal
 pub same : (a b : Bool) → (T a → T b) → (T b → T a) → a ≡ b
 same true true f g = refl

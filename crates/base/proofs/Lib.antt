@@ -2,6 +2,7 @@ pub mod Bools
 pub mod Compare
 pub mod Choose
 pub mod Span
+pub mod Written
 pub mod Members
 pub mod Lists
 pub mod Sets

@@ -25,8 +25,9 @@ use Rattle.job.specs.declared.Check.the-variants.{Accepted, Refused}
 use Rattle.job.specs.declared.Question.{Question}
 use Rattle.job.proofs.Accepted.{well-formed}
 use Rattle.job.proofs.Written.{questions-count}
-use Rattle.model.specs.Model.{Verdict, True, False, Undefined, programOf, verdict, byteOf}
-use Rattle.model.proofs.Missing.{missing-of}
+use Rattle.semantics.specs.Model.{Verdict, True, False, Undefined, programOf, verdict, byteOf}
+use Rattle.semantics.proofs.Missing.{missing-of}
+use Rattle.semantics.proofs.Textbook.{textbook-of}
 use Rattle.table.specs.Questions.{positionsOf, askedBy, claimAsked, questionClaim}
 use Rattle.table.specs.Layout.{used, mark, markOf, answered, answerWord}
 use Rattle.table.specs.Start.{startWords}
@@ -286,6 +287,7 @@ module _ (i : List ℕ) (e : Accepted ≡ listingCheck i) where
         others = λ c h n. claim-line c (named-unopened _ (claim-fresh s good zeros enough ws names-low c h n));
         settled = claim-settled s good zeros enough ws names-low;
         missing = missing-of s (well-formed s good);
+        textbook = textbook-of s (well-formed s good);
       }
 
 pub told : (i : List ℕ) → Told i

@@ -11,8 +11,9 @@ use Rattle.job.specs.Job.{Job}
 use Rattle.job.specs.Format.{jobOf}
 use Rattle.job.specs.declared.Check.the-variants.{Accepted}
 use Rattle.job.specs.declared.Question.{Question}
-use Rattle.model.specs.Model.{Verdict, True, False, Undefined, programOf, verdict}
-use Rattle.model.specs.Missing.{MissingRecords}
+use Rattle.semantics.specs.Model.{Verdict, True, False, Undefined, programOf, verdict}
+use Rattle.semantics.specs.Missing.{MissingRecords}
+use Rattle.semantics.specs.Textbook.{Textbook}
 use Rattle.table.specs.Questions.{claimAsked}
 use Rattle.table.specs.Layout.{mark}
 use Rattle.table.specs.Reading.{readingOf}
@@ -55,6 +56,8 @@ pub record Shows (j : Job) (t : List ℕ) : Type 0 where
   pub settled : (c : ℕ) → c < j .claims → readingOf (mark t c) ≡ Open → ⊥
   -- (02, order 2) these verdicts are those of the job extended for its missing records
   pub missing : MissingRecords j
+  -- (02, order 9) and those by greatest unfounded sets
+  pub textbook : Textbook j
 
 pub record Told (i : List ℕ) : Type 0 where
   -- the text is never empty

@@ -13,7 +13,7 @@ use native.Mathlib.Decide.{decLt, ℕ-discrete}
 use borrow.Author.Tests.{eq-eqb, ne-eqb}
 use lib.Dec.{eqb}
 use Rattle.job.specs.Job.{Rule}
-use Rattle.model.specs.Model.{Body, bodyOf, bodiesOf, program, Verdict, True, False, Undefined, exchangedBodies, exchange}
+use Rattle.semantics.specs.Model.{Body, bodyOf, bodiesOf, program, Verdict, True, False, Undefined, exchangedBodies, exchange}
 use Rattle.model.specs.Passes.{keepOne, kept, rulesFor, rulesBelow, exchanged}
 
 cond-append : (t : Bool) (x : Body) (p q : List Body) → cond t (x ∷ p) p ++ q ≡ cond t (x ∷ (p ++ q)) (p ++ q)

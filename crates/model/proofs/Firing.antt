@@ -14,7 +14,7 @@ use Rattle.job.specs.Format.{missingAt, literalAt}
 use Rattle.job.proofs.Lengths.{some-own}
 use Rattle.job.specs.declared.Literal.{Literal}
 use Rattle.job.specs.declared.Literal.the-variants.{Plain, Negated}
-use Rattle.model.specs.Model.{bodyOf, holds, fires}
+use Rattle.semantics.specs.Model.{bodyOf, holds, fires}
 use Rattle.model.specs.Passes.{ruleOf, RuleRead}
 
 -- a literal whose variant is known

@@ -19,7 +19,7 @@ use Rattle.base.specs.Sets.{Claims}
 use Rattle.job.specs.Job.{Rule, _if_}
 use Rattle.job.specs.declared.Literal.the-variants.{Negated}
 use Rattle.job.specs.Format.{claims, jobOf}
-use Rattle.model.specs.Model.{Body, bodyOf, program, fires, Verdict, True, False, Undefined, verdictOf, knownOf}
+use Rattle.semantics.specs.Model.{Body, bodyOf, program, fires, Verdict, True, False, Undefined, verdictOf, knownOf}
 use Rattle.model.specs.Passes.{setOf, adds, Passed, keepOne, kept, rulesFor, rulesBelow, exchanged, givenProgram}
 use Rattle.model.proofs.Exchanged.{exchanged-program}
 use Rattle.model.proofs.Passes.{adds-outside, adds-there, adds-silent, adds-new}

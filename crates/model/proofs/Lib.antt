@@ -1,12 +1,3 @@
-pub mod LeastSet
-pub mod Alternation
-pub mod Exchange
-pub mod Theorems
-pub mod Bodies
-pub mod Extends
-pub mod Extended
-pub mod Missing
-pub mod Fields
 pub mod Exchanged
 pub mod Passes
 pub mod Partway

@@ -14,14 +14,15 @@ use lib.Dec.{T, T-not, ltb, ltb→lt, lt→ltb, eqb}
 use lib.ListN.{length, getD, set, length-set}
 use lib.Seq.{getD-set-same, getD-set-other}
 use Rattle.base.specs.Sets.{Claims, _⊆_, count}
-use Rattle.base.proofs.Bools.{is-true, and-in, and-left, and-right, neither, same}
+use Rattle.base.proofs.Bools.{is-true, and-left, and-right, neither, same}
 use Rattle.base.proofs.Sets.{count-le, count-less}
 use Rattle.job.specs.Job.{Rule}
 use Rattle.job.specs.Encoding.{_∈_}
-use Rattle.model.specs.Model.{Body, bodyOf, bodiesOf, Program, program, fires, anyFires, step, D}
+use Rattle.semantics.specs.Model.{Body, bodyOf, Program, program, holds, fires, step, D}
 use Rattle.model.specs.Passes.{setOf, adds, tried, after, changes, Passed}
-use Rattle.model.proofs.Bodies.{bodies-in, bodies-out}
-use Rattle.model.proofs.LeastSet.{step-more, step-inside, D-closed, D-least, any-fires, any-of}
+use Rattle.semantics.proofs.Bodies.{bodies-in, bodies-out}
+use Rattle.semantics.proofs.Heads.{pass-each, each-pass, heads-of, heads-by}
+use Rattle.semantics.proofs.LeastSet.{step-more, step-inside, D-closed, D-least}
 
 -- when a rule adds its head
 module _ (S : Claims) (w : List ℕ) (r : Rule) where
@@ -45,16 +46,14 @@ module _ (S : Claims) (w : List ℕ) (r : Rule) where
 module _ (A : ℕ) (rs : List Rule) (S W : Claims) where
   pub step-in : (r : Rule) → r ∈ rs → r .head < A → T (fires S W (bodyOf r)) → T (step (program A rs) S W (r .head))
   unfolding step program
-  step-in r m h t =
-      and-in (ltb (r .head) A) (anyFires S W (bodiesOf rs (r .head))) (lt→ltb (r .head) A h)
-      (any-of S W (bodiesOf rs (r .head)) (bodyOf r) (bodies-in bodyOf rs r m) t)
+  step-in r m h t = heads-of (holds S W) (program A rs) (r .head) (bodyOf r) (h, bodies-in bodyOf rs r m) (pass-each (holds S W) (bodyOf r) t)
 
   pub step-out : (c : ℕ) → T (step (program A rs) S W c) → (r : Rule) × r ∈ rs × (r .head ≡ c) × T (fires S W (bodyOf r))
   unfolding step program
   step-out c t =
-      let f = any-fires S W (bodiesOf rs c) (and-right (ltb c A) (anyFires S W (bodiesOf rs c)) t) in
-      let q = bodies-out bodyOf rs c (f .0) (f .1) in
-      (q .0, q .1, q .2, subst (λ (b : Body). T (fires S W b)) (q .3) (f .2))
+      let f = heads-by (holds S W) (program A rs) c t in
+      let q = bodies-out bodyOf rs c (f .0) (f .1 .1) in
+      (q .0, q .1, q .2, subst (λ (b : Body). T (fires S W b)) (q .3) (each-pass (holds S W) (f .0) (f .2)))
 
 -- one byte set to 1
 module _ (w : List ℕ) (h : ℕ) where

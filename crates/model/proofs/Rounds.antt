@@ -9,11 +9,11 @@ use native.Mathlib.Omega.{arith}
 use lib.Dec.{T}
 use Rattle.base.specs.Sets.{Claims, _⊆_, count}
 use Rattle.base.proofs.Sets.{count-le, count-full}
-use Rattle.model.specs.Model.{Program, D, K, U}
+use Rattle.semantics.specs.Model.{Program, D, K, U}
 use Rattle.model.specs.Passes.{setOf}
 use Rattle.model.specs.Rounds.{Rising, Round}
-use Rattle.model.proofs.LeastSet.{D-inside, D-antitone}
-use Rattle.model.proofs.Alternation.{K-fix, U-fix, K⊆U, closed-K}
+use Rattle.semantics.proofs.LeastSet.{D-inside, D-antitone}
+use Rattle.semantics.proofs.Alternation.{K-fix, U-fix, K⊆U, closed-K}
 
 pub rising-start : (P : Program) (W : Claims) → ((c : ℕ) → T (W c) → ⊥) → Rising P W
 rising-start P W empty = record { below = λ c t. absurd (empty c t); rises = λ c t. absurd (empty c t) }

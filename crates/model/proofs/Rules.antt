@@ -19,7 +19,7 @@ use Rattle.job.specs.Job.{Rule, mostClaims}
 use Rattle.job.specs.Format.{claims, rules, ruleByte, literalByte, headAt, bodyLengthAt, bodyStart, ruleAt, jobOf}
 use Rattle.job.specs.Accepted.{WellFormed}
 use Rattle.job.proofs.Parts.{body-within}
-use Rattle.model.specs.Model.{program, Verdict, knownOf}
+use Rattle.semantics.specs.Model.{program, Verdict, knownOf}
 use Rattle.model.specs.Passes.{Passed, keepOne, kept, ruleOf, RuleRead, givenProgram}
 use Rattle.model.proofs.Partway.{Partway, partway-start, partway-more, partway-done}
 

@@ -26,7 +26,7 @@ use Rattle.base.specs.Span.{span}
 use Rattle.job.specs.Job.{Rule, _if_}
 use Rattle.job.specs.Format.{ruleByte, literalByte, missingAt, bodyLengthAt, literalAt, jobOf}
 use Rattle.job.specs.declared.Literal.the-variants.{Negated}
-use Rattle.model.specs.Model.{Program, bodyOf, programOf, fires, Verdict, True, False, Undefined, exchange, knownOf}
+use Rattle.semantics.specs.Model.{Program, bodyOf, programOf, fires, Verdict, True, False, Undefined, exchange, knownOf}
 
 unfoldable pub setOf : List ℕ → Claims
 setOf w c = not (eqb (getD w c 0) 0)

@@ -1,6 +1,6 @@
 // D(S): the least set of claims that hold by the rules, against the set s. It grows in w by passes over the rules until one
 // changes nothing. A claim whose verdict is known has, in place of its own rules, those that the verdict stands for.
-// The contracts cite specs/Model and specs/Passes.
+// The contracts cite semantics/specs/Model and specs/Passes.
 ghost use mathlib.Core.Path.{_≡_};
 ghost use Prim.Native.Nat.{_+_, _≤_};
 ghost use mathlib.Core.List.{[], _∷_, _++_};
@@ -9,7 +9,7 @@ ghost use Rattle.base.specs.Sets.{_⊆_};
 ghost use Rattle.base.specs.Span.{span};
 ghost use Rattle.job.specs.Accepted.{WellFormed};
 ghost use Rattle.job.specs.Format.{claims, literalByte, literalAt};
-ghost use Rattle.model.specs.Model.{bodyOf, holds, fires, D, verdictOf, knownOf};
+ghost use Rattle.semantics.specs.Model.{bodyOf, holds, fires, D, verdictOf, knownOf};
 ghost use Rattle.model.specs.Passes.{setOf, Passed, kept, rulesFor, ruleOf, RuleRead, ownRules, knownRules, givenProgram};
 use crate::FALSE;
 use crate::TRUE;

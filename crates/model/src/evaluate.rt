@@ -1,11 +1,11 @@
-// The evaluation of a job: the verdict of every claim in its well-founded model. The contracts cite specs/Model and specs/Output.
+// The evaluation of a job: the verdict of every claim in its well-founded model. The contracts cite semantics/specs/Model and specs/Output.
 ghost use mathlib.Core.Path.{_≡_};
 ghost use Prim.Native.Nat.{_≤_};
 ghost use lib.ListN.{length};
 ghost use Rattle.base.specs.Sets.{count};
 ghost use Rattle.job.specs.Accepted.{WellFormed};
 ghost use Rattle.job.specs.Format.{claims};
-ghost use Rattle.model.specs.Model.{K, U};
+ghost use Rattle.semantics.specs.Model.{K, U};
 ghost use Rattle.model.specs.Output.{judgedByte, judgedOutput, knownOutput, Evaluated, KnownEvaluated};
 ghost use Rattle.model.specs.Passes.{setOf, givenProgram};
 ghost use Rattle.model.specs.Rounds.{Rising, Round};

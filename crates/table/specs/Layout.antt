@@ -15,7 +15,7 @@ use lib.Dec.{leb, eqb}
 use lib.ListN.{length, getD}
 use Rattle.base.specs.Span.{span}
 use Rattle.job.specs.Job.{Job}
-use Rattle.model.specs.Model.{Verdict, byteOf}
+use Rattle.semantics.specs.Model.{Verdict, byteOf}
 
 -- "words used 8 + 3A + 2T + Q"
 abbrev pub used : Job → ℕ

@@ -18,7 +18,7 @@ use Rattle.job.specs.declared.Question.{Question}
 use Rattle.job.proofs.Rows.{join, pass}
 use Rattle.job.proofs.Accepted.{accepted}
 use Rattle.job.proofs.Encoding.{decoded, encoded-well-formed}
-use Rattle.model.specs.Model.{byteOf}
+use Rattle.semantics.specs.Model.{byteOf}
 use Rattle.table.specs.Questions.{positionsOf, askedBy, claimAsked, questionClaim}
 use Rattle.table.specs.Start.{startWords}
 use Rattle.table.proofs.Ranges.{accepts}

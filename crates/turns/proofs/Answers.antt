@@ -16,7 +16,7 @@ use Rattle.base.specs.Choose.{pick}
 use Rattle.base.proofs.Bools.{and-no}
 use Rattle.base.proofs.Choose.{pick-true, pick-false}
 use Rattle.job.specs.Job.{Job}
-use Rattle.model.specs.Model.{byteOf}
+use Rattle.semantics.specs.Model.{byteOf}
 use Rattle.table.specs.Questions.{questionClaim}
 use Rattle.table.specs.Layout as W
 use Rattle.table.specs.Reading.{readingOf, readingValue}

@@ -21,7 +21,7 @@ use Rattle.base.proofs.Choose.{pick-elim, pick-true, pick-false}
 use Rattle.base.proofs.Lists.{In, in-head, in-tail, upto-in, keep-in, keep-same, keep-members}
 use Rattle.job.specs.Job.{Job}
 use Rattle.job.specs.Format.{claims, jobOf}
-use Rattle.model.specs.Model.{programOf, verdict, exchange, knownOf}
+use Rattle.semantics.specs.Model.{programOf, verdict, exchange, knownOf}
 use Rattle.model.specs.Output.{verdictBytes, knownOutput}
 use Rattle.model.specs.Passes.{setOf, givenProgram}
 use Rattle.model.proofs.Rules.{claims-given}

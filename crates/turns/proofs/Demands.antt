@@ -11,10 +11,11 @@ use Rattle.job.specs.Format.{jobOf}
 use Rattle.job.specs.Checks.{checkJob}
 use Rattle.job.specs.declared.Check.the-variants.{Accepted}
 use Rattle.job.proofs.Accepted.{well-formed}
-use Rattle.model.specs.Model.{knownOf}
-use Rattle.model.specs.Missing.{Extension}
+use Rattle.semantics.specs.Model.{knownOf}
+use Rattle.semantics.specs.Missing.{Extension}
 use Rattle.model.proofs.Known.{known-past}
-use Rattle.model.proofs.Missing.{missing-of}
+use Rattle.semantics.proofs.Missing.{missing-of}
+use Rattle.semantics.proofs.Textbook.{textbook-of}
 use Rattle.table.specs.Layout.{mark, valueOf, markOf, values}
 use Rattle.turns.specs.Turn.{completedMark}
 use Rattle.turns.specs.Promise.{extendedMark, Promise}
@@ -47,5 +48,6 @@ promise s e =
       changes = λ t f xs w. on-changes s e t f xs w;
       rounds = λ t f xs r. on-rounds s e t f xs r;
       missing = missing-of s (well-formed s e);
+      textbook = textbook-of s (well-formed s e);
       completion = as-extended (jobOf s) (missing-of s (well-formed s e) .extension);
     }

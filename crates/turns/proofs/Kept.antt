@@ -7,7 +7,7 @@ use native.Mathlib.Omega.{arith}
 use native.Mathlib.Decide.{ℕ-discrete, decLe}
 use lib.ListN.{length, getD}
 use Rattle.job.specs.Job.{Job}
-use Rattle.model.specs.Model.{byteOf}
+use Rattle.semantics.specs.Model.{byteOf}
 use Rattle.table.specs.Questions.{askedBy, claimAsked, questionClaim}
 use Rattle.table.specs.Layout as W
 use Rattle.table.specs.Ranges.{InRange}

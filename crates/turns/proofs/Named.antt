@@ -1,25 +1,27 @@
--- The claims that questions name or lead to, by lists (Asked) and by places (Led). Assumes nothing.
+-- The claims that questions name or lead to, by rules (Asked) and by places (Led). Assumes nothing.
 --   member      a list's member at a place
---   led-asked   from places to lists;    on-claims   the clause `claims` of Promise
-use mathlib.Core.Path.{_≡_, refl, sym, ap, subst}
-use mathlib.Core.List.{List, [], _∷_, List·Memᴰ·head, List·Memᴰ·tail}
+--   led-asked   from places to rules;    on-claims   the clause `claims` of Promise
+use mathlib.Core.Path.{_≡_, refl, sym, _∙_, ap, subst}
+use mathlib.Core.List.{List, [], _∷_, List·Memᴰ·head, List·Memᴰ·tail, Memᴰ·of-map}
 use Prim.Native.Nat.{ℕ, zero, suc, _-_, _<_}
 use native.Mathlib.Omega.{arith}
 use lib.ListN.{length, getD}
 use Rattle.base.specs.Graph.{Reach, here, step}
-use Rattle.job.specs.Job.{Job}
+use Rattle.job.specs.Job.{Job, claimOf, literalsOf}
 use Rattle.job.specs.Format.{jobOf}
 use Rattle.job.specs.Encoding.{_∈_, Valid}
 use Rattle.job.specs.Checks.{checkJob}
 use Rattle.job.specs.declared.Check.the-variants.{Accepted}
 use Rattle.job.specs.declared.Question.{Question}
+use Rattle.semantics.specs.Leads.{LeadsTo}
+use Rattle.semantics.proofs.Leads.{used}
 use Rattle.table.specs.Questions.{askedBy, claimAsked, questionClaim}
 use Rattle.table.specs.Layout as W
 use Rattle.table.specs.Start.{startWords}
 use Rattle.waiting.specs.Led as L
 use Rattle.turns.specs.Turn.{lits, runTable}
 use Rattle.turns.specs.Lists.{Call, turnsOf, Complete}
-use Rattle.turns.specs.Promise.{Fresh, from, Leads, Asked}
+use Rattle.turns.specs.Promise.{Fresh, from, Asked}
 use Rattle.turns.proofs.Places.{place-low}
 use Rattle.turns.proofs.Promise.{LitAt, led-job, only-led}
 use Rattle.turns.proofs.Histories.{turns-low, after-turns}
@@ -47,15 +49,18 @@ found (q ∷ qs) (suc p) h =
     record { question = k .question; is = List·Memᴰ·tail (k .is); claim = k .claim }
 
 module _ (j : Job) (v : Valid j) where
-  by-list : {x y : ℕ} → Reach (LitAt j) x y → Reach (Leads j) x y
-  by-list here = here
-  by-list {x} (step l p) = step (subst (λ z. z ∈ lits j x) (l .is) (member (lits j x) 0 (l .at) (l .real))) (by-list p)
+  by-rules : {x y : ℕ} → Reach (LitAt j) x y → LeadsTo j x y
+  unfolding lits
+  by-rules here = here
+  by-rules {x} (step l p) =
+      let q = Memᴰ·of-map claimOf (literalsOf x (j .rules)) (member (lits j x) 0 (l .at) (l .real)) in
+      step (q .0, used j v x (q .0) (q .1), q .2 ∙ l .is) (by-rules p)
 
   pub led-asked : (c : ℕ) → L.Led (led-job j) c → Asked j c
   unfolding questionClaim
   led-asked c (L.led {w = w} {i = i} h l p) =
       let f = found (j .questions) (getD (askedBy j w) i 0) (place-low j w i l) in
-      record { question = f .question; is = f .is; leads = subst (λ (x : ℕ). Reach (Leads j) x c) (sym (f .claim)) (by-list p) }
+      record { question = f .question; is = f .is; leads = subst (λ (x : ℕ). LeadsTo j x c) (sym (f .claim)) (by-rules p) }
 
 module _ (s : List ℕ) (e : Accepted ≡ checkJob s) (t : List ℕ) (room : Fresh s t) (xs : List Call) where
   abbrev start : List ℕ

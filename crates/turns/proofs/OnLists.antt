@@ -15,7 +15,7 @@ use Rattle.job.specs.Checks.{checkJob}
 use Rattle.job.specs.declared.Check.the-variants.{Accepted}
 use Rattle.job.proofs.Accepted.{well-formed}
 use Rattle.job.proofs.Valid.{well-formed-valid}
-use Rattle.model.specs.Model.{byteOf}
+use Rattle.semantics.specs.Model.{byteOf}
 use Rattle.table.specs.Questions.{askedBy, questionClaim}
 use Rattle.table.specs.Layout as W
 use Rattle.table.specs.Ranges.{checkTable}

@@ -8,7 +8,7 @@ use native.Mathlib.Omega.{arith}
 use lib.ListN.{length}
 use Rattle.base.proofs.Lists.{keep-in}
 use Rattle.job.specs.Job.{Job}
-use Rattle.model.specs.Model.{programOf, Verdict, True, False, Undefined, verdict, byteOf, exchange, knownOf}
+use Rattle.semantics.specs.Model.{programOf, Verdict, True, False, Undefined, verdict, byteOf, exchange, knownOf}
 use Rattle.table.specs.Questions.{askedBy}
 use Rattle.table.specs.Layout as W
 use Rattle.table.specs.Ranges.{InRange}

@@ -19,7 +19,7 @@ use Rattle.job.specs.declared.Check.the-variants.{Accepted}
 use Rattle.job.specs.declared.Literal.{Literal}
 use Rattle.job.specs.declared.Literal.the-variants.{Plain, Negated}
 use Rattle.job.proofs.RuleEnds.{RuleAt, rule-at}
-use Rattle.model.specs.Model.{Verdict, True, False, Undefined, opposite, programOf, literalVerdict, byteOf}
+use Rattle.semantics.specs.Model.{Verdict, True, False, Undefined, opposite, programOf, literalVerdict, byteOf}
 use Rattle.table.specs.Layout as W
 use Rattle.waiting.specs.Led as L
 use Rattle.turns.specs.Turn.{lits, litAt, failed}

@@ -1,7 +1,7 @@
 -- Demand 2 on the turns: marks of complete claims and answers of questions are the verdicts of the job's model. Assumes nothing.
 --   Verdicts j t      every complete claim's mark is its verdict's; an answered question's claim is complete and its word the verdict's
 --                     byte, and any other question's word is 0
---   completed-right   on such a table a completed claim gets its verdict's mark, by Exchange (model/specs/Theorems)
+--   completed-right   on such a table a completed claim gets its verdict's mark, by Exchange (semantics/specs/Theorems)
 use mathlib.Core.Path.{_≡_, sym, _∙_, ap, ap₂}
 use mathlib.Core.Logic.{by-cases}
 use mathlib.Core.List.{List}
@@ -15,9 +15,9 @@ use Rattle.base.specs.Sets.{Claims}
 use Rattle.base.specs.Span.{span}
 use Rattle.base.proofs.Span.{length-span, getD-span}
 use Rattle.job.specs.Job.{Job}
-use Rattle.model.specs.Model.{programOf, Verdict, judge, verdict, byteOf, verdictOf, knownOf}
-use Rattle.model.specs.Theorems.{Right}
-use Rattle.model.proofs.Theorems as M
+use Rattle.semantics.specs.Model.{programOf, Verdict, judge, verdict, byteOf, verdictOf, knownOf}
+use Rattle.semantics.specs.Theorems.{Right}
+use Rattle.semantics.proofs.Theorems as M
 use Rattle.table.specs.Questions.{askedBy, questionClaim}
 use Rattle.table.specs.Layout as W
 use Rattle.turns.specs.Turn.{completedMark}

@@ -1,8 +1,7 @@
 -- Demands 2 and 3 for an accepted job of bytes s: what holds of every list of calls, and of every two, from freshly started tables.
 --   Fresh s t       t is long enough for the job: a table to be started
 --   from s t xs     the table after the list xs, from t freshly started; history s t xs   its turns
---   Leads j x y     a literal of a rule of x, plain or negated, has claim y
---   Asked j c       a question names c or leads to it through all literals of rules
+--   Asked j c       a question names c or leads to it through all literals of rules (semantics/specs/Leads: LeadsTo)
 --   FalseAmong      one of some literals is complete and false
 --   OthersBehind    the literals of rules of complete claims whose claims aren't complete stand behind a complete false one
 --   OpenedFor       what a worker opens a claim for
@@ -16,7 +15,6 @@ use mathlib.Core.Path.{_≡_}
 use mathlib.Core.List.{List, [], _∷_, _++_, map}
 use mathlib.Core.Logic.{_↔_}
 use lib.ListN.{length, getD}
-use Rattle.base.specs.Graph.{Reach}
 use Rattle.job.specs.Job.{Job, Rule, claimOf, literalCount}
 use Rattle.job.specs.Format.{jobOf}
 use Rattle.job.specs.Encoding.{encode, _∈_}
@@ -24,15 +22,17 @@ use Rattle.job.specs.Checks.{checkJob}
 use Rattle.job.specs.declared.Check.the-variants.{Accepted}
 use Rattle.job.specs.declared.Literal.{Literal}
 use Rattle.job.specs.declared.Question.{Question}
-use Rattle.model.specs.Model.{programOf, False, verdict, literalVerdict, byteOf, exchange, knownOf}
-use Rattle.model.specs.Missing.{extended, asWritten, MissingRecords}
+use Rattle.semantics.specs.Model.{programOf, False, verdict, literalVerdict, byteOf, exchange, knownOf}
+use Rattle.semantics.specs.Missing.{extended, asWritten, MissingRecords}
+use Rattle.semantics.specs.Leads.{LeadsTo}
+use Rattle.semantics.specs.Textbook.{Textbook}
 use Rattle.table.specs.Questions.{askedBy, questionClaim}
 use Rattle.table.specs.Layout.{used, mark, answered, answerWord, markOf, values}
 use Rattle.table.specs.Ranges.{checkTable}
 use Rattle.table.specs.Start.{startWords}
 use Rattle.table.specs.Reading.{readingOf, readingValue}
 use Rattle.waiting.specs.Runs.{Rounds}
-use Rattle.turns.specs.Turn.{lits, completedMark, turn}
+use Rattle.turns.specs.Turn.{completedMark, turn}
 use Rattle.turns.specs.declared.Kind.the-variants.{Idle}
 use Rattle.turns.specs.Lists.{Call, turning, after, turnsOf, Event, events, IsAnswered, answerOf, AllAnswered, Complete}
 
@@ -45,14 +45,10 @@ from s t xs = after s (startWords (jobOf s) t) xs
 abbrev pub history : List ℕ → List ℕ → List Call → List Event
 history s t xs = events s (startWords (jobOf s) t) xs
 
--- "All literals of rules lead from a claim to the claim of each literal, plain or negated, of each rule it heads, and on from there any number of times"
-abbrev pub Leads : Job → ℕ → ℕ → Type 0
-Leads j x y = y ∈ lits j x
-
 pub record Asked (j : Job) (c : ℕ) : Type 0 where
   pub question : Question
   pub is : question ∈ j .questions
-  pub leads : Reach (Leads j) (question .claim) c
+  pub leads : LeadsTo j (question .claim) c
 
 -- "a complete false one": a literal is false if it is plain and its claim is false, or negated and its claim is true
 pub record FalseAmong (j : Job) (t : List ℕ) (ls : List Literal) : Type 0 where
@@ -144,5 +140,7 @@ pub record Promise (s : List ℕ) : Type 0 where
       → AllAnswered (jobOf s) (history s t xs)
   -- (02, order 2) "The model, completion and plain evaluation all follow this, and agreement with the 1991 model is then with the job so extended."
   pub missing : MissingRecords (jobOf s)
+  -- (02, order 9) that model by greatest unfounded sets, and which claims are not undefined in it
+  pub textbook : Textbook (jobOf s)
   -- what a turn completes, on every table, also one that no run made
   pub completion : (t : List ℕ) (c : ℕ) → c < jobOf s .claims → completedMark (jobOf s) t c ≡ extendedMark (jobOf s) t c

@@ -27,7 +27,7 @@ use Rattle.base.specs.Lists.{upto, keep, every, isIn}
 use Rattle.job.specs.Job.{Job, claimOf, literalsOf, ruleEnd}
 use Rattle.job.specs.declared.Literal.{Literal}
 use Rattle.job.specs.declared.Literal.the-variants.{Plain, Negated}
-use Rattle.model.specs.Model.{programOf, verdict, exchange, knownOf}
+use Rattle.semantics.specs.Model.{programOf, verdict, exchange, knownOf}
 use Rattle.table.specs.Questions.{askedBy, questionClaim}
 use Rattle.table.specs.Layout.{opened, markWord, cursorWord, numberWord, mark, cursor, number, awaitedWord, answeredWord, awaited, answered, answerWord, fresh, owned, complete, valueOf, markOf, values}
 use Rattle.turns.specs.declared.Kind.{Kind}

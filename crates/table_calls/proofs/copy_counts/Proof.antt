@@ -6,7 +6,7 @@ use native.Mathlib.Omega.{arith}
 use borrow.Author.Tests.{lt-ltb, le-ltb}
 use lib.ListN.{length, getD, drop, length-set}
 use Rattle.base.specs.Span.{span}
-use Rattle.model.proofs.Written.{written-start, written-more, written-whole}
+use Rattle.base.proofs.Written.{written-start, written-more, written-whole}
 use Rattle.table_calls.specs.Numbers.{copied}
 use Rattle.table_calls.proofs.copy_counts.Statement.{statement}
 use Rattle.table_calls.proofs.copy_counts.Tie as tie

@@ -9,7 +9,7 @@ use Rattle.base.specs.Span.{span}
 use Rattle.base.proofs.Span.{span-none}
 use Rattle.job.specs.Format.{literalByte, literalAt}
 use Rattle.model.specs.Passes.{setOf}
-use Rattle.model.specs.Model.{fires}
+use Rattle.semantics.specs.Model.{fires}
 use Rattle.model.proofs.Firing.{fires-stop, fires-on}
 use Rattle.model.proofs.derive.body_fires.Statement.{statement}
 use Rattle.model.proofs.derive.body_fires.Tie as tie

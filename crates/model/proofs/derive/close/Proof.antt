@@ -7,7 +7,7 @@ use lib.ListN.{length}
 use Rattle.base.specs.Sets.{_⊆_, count}
 use Rattle.job.specs.Format.{claims}
 use Rattle.model.specs.Passes.{setOf, givenProgram}
-use Rattle.model.specs.Model.{D}
+use Rattle.semantics.specs.Model.{D}
 use Rattle.model.proofs.Passes.{turn-long, turn-sound, turn-done, turn-less}
 use Rattle.model.proofs.Known.{listed}
 use Rattle.model.proofs.derive.close.Statement.{statement}

@@ -8,7 +8,7 @@ use native.Mathlib.Omega.{arith}
 use Rattle.job.specs.Format.{bodyStart, jobOf}
 use Rattle.job.proofs.Parts.{bodyStart-next}
 use Rattle.model.specs.Passes.{setOf, kept}
-use Rattle.model.specs.Model.{knownOf}
+use Rattle.semantics.specs.Model.{knownOf}
 use Rattle.model.proofs.Rules.{header-room, rule-room, body-room, rule-was-read, body-first, toCome, pass-start, pass-more, pass-done}
 use Rattle.model.proofs.Partway.{Partway, flag-on, flag-off}
 use Rattle.model.proofs.derive.pass.Statement.{statement}

@@ -5,7 +5,7 @@ use mathlib.Core.Path.{refl}
 use native.Mathlib.Omega.{arith}
 use lib.ListN.{length}
 use Rattle.model.specs.Passes.{setOf, rulesBelow}
-use Rattle.model.specs.Model.{knownOf}
+use Rattle.semantics.specs.Model.{knownOf}
 use Rattle.model.proofs.Partway.{Partway, partway-start, partway-more, partway-done, flag-on, flag-off}
 use Rattle.model.proofs.Known.{below-none, below-one}
 use Rattle.model.proofs.derive.settle_all.Statement.{statement}

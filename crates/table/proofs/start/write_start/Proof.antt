@@ -8,7 +8,7 @@ use borrow.Author.Needs.{needs}
 use lib.ListN.{length, getD, drop, length-set}
 use Rattle.base.specs.Span.{span}
 use Rattle.job.specs.Format.{jobOf}
-use Rattle.model.proofs.Written.{written-start, written-more}
+use Rattle.base.proofs.Written.{written-start, written-more}
 use Rattle.table.proofs.Started.{start-written, header-length}
 use Rattle.table.specs.Layout.{used as usedOf}
 use Rattle.table.proofs.start.write_start.Statement.{statement}

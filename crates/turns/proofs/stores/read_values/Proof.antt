@@ -6,7 +6,7 @@ use native.Mathlib.Omega.{arith}
 use lib.Seq.{drop-length}
 use lib.ListN.{length, drop, length-set}
 use Rattle.base.specs.Span.{span}
-use Rattle.model.proofs.Written.{written-start, written-more, written-whole}
+use Rattle.base.proofs.Written.{written-start, written-more, written-whole}
 use Rattle.table.specs.Layout.{mark, valueOf}
 use Rattle.turns.proofs.stores.read_values.Statement.{statement}
 use Rattle.turns.proofs.stores.read_values.Tie as tie

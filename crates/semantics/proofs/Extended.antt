@@ -1,31 +1,20 @@
 -- The verdicts of a valid job are those of the job extended in the order's words (specs/Missing: Extension). Assumes nothing.
---   map-in, map-out          what is in a mapped list
 --   body-missing, body-own   the body that a rule is read with
 --   extends-job              the extended job's program, as it stands, extends the job's (proofs/Extends)
 use Prim.Native.Nat.{ℕ, _<_}
 use mathlib.Core.Path.{_≡_, refl, sym, _∙_, ap, subst, subst⁻¹}
 use mathlib.Core.Bool.{Bool, true, false}
-use mathlib.Core.List.{List, [], _∷_, map, List·Memᴰ·head, List·Memᴰ·tail, List·Memᴰ·not-nil, List·Memᴰ·cases-cons, List·Memᴰ·append-cases, List·Memᴰ·eq-of-singleton, Memᴰ·append-left, Memᴰ·append-right}
+use mathlib.Core.List.{List, [], _∷_, map, List·Memᴰ·head, List·Memᴰ·append-cases, List·Memᴰ·eq-of-singleton, Memᴰ·append-left, Memᴰ·append-right, Memᴰ·map, Memᴰ·of-map}
 use mathlib.Core.Logic.{_⊎_, inl, inr, ⊎-elim}
 use native.Mathlib.Omega.{arith}
 use Rattle.job.specs.Job.{Rule, Job, claimOf, _if_}
 use Rattle.job.specs.Encoding.{_∈_, Valid}
 use Rattle.job.specs.declared.Literal.{Literal}
 use Rattle.job.specs.declared.Literal.the-variants.{Plain, Negated}
-use Rattle.model.specs.Model.{Body, bodyOf, bodiesBy, program, programOf}
-use Rattle.model.specs.Missing.{extendedRule, extended, asWritten, Extension}
-use Rattle.model.proofs.Bodies.{bodies-at, bodies-out}
-use Rattle.model.proofs.Extends.{Extends, extends-verdict, extends-undefined, exchange-extends}
-
-module _ {A B : Type 0} (f : A → B) where
-  map-in : (xs : List A) (x : A) → x ∈ xs → f x ∈ map f xs
-  map-in [] x m = absurd (List·Memᴰ·not-nil m)
-  map-in (y ∷ xs) x m = ⊎-elim (λ e. List·Memᴰ·head (ap f e)) (λ k. List·Memᴰ·tail (map-in xs x k)) (List·Memᴰ·cases-cons m)
-
-  map-out : (xs : List A) (y : B) → y ∈ map f xs → (x : A) × x ∈ xs × (y ≡ f x)
-  map-out [] y m = absurd (List·Memᴰ·not-nil m)
-  map-out (x ∷ xs) y m =
-      ⊎-elim (λ e. (x, List·Memᴰ·head refl, e)) (λ k. let q = map-out xs y k in (q .0, List·Memᴰ·tail (q .1), q .2)) (List·Memᴰ·cases-cons m)
+use Rattle.semantics.specs.Model.{Body, bodyOf, bodiesBy, program, programOf}
+use Rattle.semantics.specs.Missing.{extendedRule, extended, asWritten, Extension}
+use Rattle.semantics.proofs.Bodies.{bodies-at, bodies-out}
+use Rattle.semantics.proofs.Extends.{Extends, extends-verdict, extends-undefined, exchange-extends}
 
 -- a test and what it is
 pub either : {C : Type 0} (t : Bool) → (t ≡ true → C) → (t ≡ false → C) → C
@@ -50,7 +39,7 @@ module _ (j : Job) (v : Valid j) where
   rules⁺ = extended j .rules
 
   rule-in : (r : Rule) → r ∈ j .rules → extendedRule u r ∈ rules⁺
-  rule-in r m = Memᴰ·append-left _ (map-in (extendedRule u) (j .rules) r m)
+  rule-in r m = Memᴰ·append-left _ (Memᴰ·map (extendedRule u) m)
 
   data Of (r : Rule) : Type 0 where
     own : r ≡ (u if Negated u ∷ []) → Of r
@@ -58,7 +47,7 @@ module _ (j : Job) (v : Valid j) where
 
   rule-out : (r : Rule) → r ∈ rules⁺ → Of r
   rule-out r m =
-      ⊎-elim (λ k. let q = map-out (extendedRule u) (j .rules) r k in read (q .0) (q .1) (q .2)) (λ k. own (List·Memᴰ·eq-of-singleton k))
+      ⊎-elim (λ k. let q = Memᴰ·of-map (extendedRule u) (j .rules) k in read (q .0) (q .1) (sym (q .2))) (λ k. own (List·Memᴰ·eq-of-singleton k))
       (List·Memᴰ·append-cases (map (extendedRule u) (j .rules)) m)
 
   -- a body of the extended rule of r, by whether r is missing

@@ -19,7 +19,7 @@ use mathlib.Core.Option.{Option, none}
 use Rattle.job.specs.Job.{Rule, Job, _if_}
 use Rattle.job.specs.Encoding.{_∈_}
 use Rattle.job.specs.declared.Literal.the-variants.{Plain, Negated}
-use Rattle.model.specs.Model.{Program, bodiesBy, programOf, Verdict, True, False, Undefined, verdict, exchange}
+use Rattle.semantics.specs.Model.{Program, bodiesBy, programOf, Verdict, True, False, Undefined, verdict, exchange}
 
 -- "A rule record with body length 65,535 .. makes its head missing"
 abbrev pub Missing : Job → ℕ → Type 0

@@ -7,45 +7,47 @@ use mathlib.Core.Path.{_≡_, refl, _∙_, ap, ap₂, subst, subst⁻¹, fun-ext
 use mathlib.Core.Bool.{false, cond}
 use mathlib.Core.List.{List, [], _∷_, List·Memᴰ·head, List·Memᴰ·tail}
 use lib.Dec.{T, eqb}
-use Rattle.base.specs.Sets.{Claims}
 use Rattle.job.specs.Job.{Rule, Job}
 use Rattle.job.specs.Encoding.{_∈_, Valid}
 use Rattle.job.specs.Format.{jobOf}
 use Rattle.job.specs.Accepted.{WellFormed}
 use Rattle.job.proofs.Valid.{well-formed-valid}
 use Rattle.job.specs.declared.Literal.the-variants.{Plain, Negated}
-use Rattle.model.specs.Model.{Body, bodyOf, bodiesBy, Program, program, programOf, step, K, U}
-use Rattle.model.specs.Missing.{Missing, HeldBy, MissingClaims, NoneMissing, MissingRecords}
-use Rattle.model.proofs.Bodies.{bodies-at, bodies-out}
-use Rattle.model.proofs.LeastSet.{step-of, step-by, D-closed, D-step}
-use Rattle.model.proofs.Alternation.{K-fix, K⊆U, verdict-true, verdict-false, verdict-undefined}
-use Rattle.model.proofs.Extends.{negation-holds}
-use Rattle.model.proofs.Extended.{either, body-missing, body-own, extension}
+use Rattle.semantics.specs.Model.{Body, bodyOf, bodiesBy, Program, program, programOf, K, U}
+use Rattle.semantics.specs.Derived.{Derived, rule}
+use Rattle.semantics.specs.Missing.{Missing, HeldBy, MissingClaims, NoneMissing, MissingRecords}
+use Rattle.semantics.proofs.Bodies.{bodies-at, bodies-out}
+use Rattle.semantics.proofs.Alternation.{K⊆U, verdict-true, verdict-false, verdict-undefined}
+use Rattle.semantics.proofs.ByRule.{K-derived, K-rule}
+use Rattle.semantics.proofs.Extends.{negation-holds}
+use Rattle.semantics.proofs.Extended.{either, body-missing, body-own, extension}
 
 module _ (j : Job) where
   abbrev P : Program
   P = programOf j
 
   -- a true claim, by the rule that derives it
-  held : (c : ℕ) → T (K P c) → HeldBy j c
+  held-by : (c : ℕ) → T (K P c) → Derived P (U P) c → HeldBy j c
   unfolding program
-  held c k =
-      let r = step-by (U P) (K P) P c (subst⁻¹ (λ (W : Claims). T (step P (U P) W c)) (K-fix P) (D-step P (U P) c (subst (λ (W : Claims). T (W c)) (K-fix P) k))) in
-      let q = bodies-out bodyOf (j .rules) c (r .0) (r .1) in
+  held-by c k (rule b h m p n) =
+      let q = bodies-out bodyOf (j .rules) c b m in
       either (q .0 .missing)
       (λ e.
-      let f : r .0 ≡ Negated c ∷ [] = q .3 ∙ body-missing (q .0) e (q .2) in
-      absurd (r .3 c (subst⁻¹ (λ (b : Body). Negated c ∈ b) f (List·Memᴰ·head refl)) (K⊆U P c k)))
+      let f : b ≡ Negated c ∷ [] = q .3 ∙ body-missing (q .0) e (q .2) in
+      absurd (n c (subst⁻¹ (λ (x : Body). Negated c ∈ x) f (List·Memᴰ·head refl)) (K⊆U P c k)))
       (λ e.
-      let f : r .0 ≡ q .0 .body = q .3 ∙ body-own (q .0) e in
+      let f : b ≡ q .0 .body = q .3 ∙ body-own (q .0) e in
       record {
         rule = q .0;
         there = q .1;
         heads = q .2;
         ordinary = e;
-        plain = λ d m. verdict-true P d .1 (r .2 d (subst⁻¹ (λ (b : Body). Plain d ∈ b) f m));
-        negated = λ d m. verdict-false P d .1 (r .3 d (subst⁻¹ (λ (b : Body). Negated d ∈ b) f m));
+        plain = λ d i. verdict-true P d .1 (K-derived P d .1 (p d (subst⁻¹ (λ (x : Body). Plain d ∈ x) f i)));
+        negated = λ d i. verdict-false P d .1 (n d (subst⁻¹ (λ (x : Body). Negated d ∈ x) f i));
       })
+
+  held : (c : ℕ) → T (K P c) → HeldBy j c
+  held c k = held-by c k (K-derived P c .0 k)
 
   -- and back
   holding : (c : ℕ) → c < j .claims → HeldBy j c → T (K P c)
@@ -53,10 +55,7 @@ module _ (j : Job) where
   holding c l h =
       let r = h .rule in
       let there = subst (λ (b : Body). b ∈ bodiesBy bodyOf (j .rules) c) (body-own r (h .ordinary)) (bodies-at bodyOf (j .rules) r c (h .there) (h .heads)) in
-      subst⁻¹ (λ (W : Claims). T (W c)) (K-fix P)
-      (D-closed P (U P) c
-      (subst (λ (W : Claims). T (step P (U P) W c)) (K-fix P)
-      (step-of (U P) (K P) P c (r .body) l there (λ d m. verdict-true P d .0 (h .plain d m)) (λ d m. verdict-false P d .0 (h .negated d m)))))
+      K-rule P c (r .body) (l, there) (λ d m. verdict-true P d .0 (h .plain d m)) (λ d m. verdict-false P d .0 (h .negated d m))
 
   -- a claim with a missing record is in U
   kept : (c : ℕ) → c < j .claims → Missing j c → (T (K P c) → ⊥) → T (U P c)

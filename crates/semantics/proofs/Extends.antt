@@ -22,10 +22,10 @@ use Rattle.job.specs.Job.{claimOf}
 use Rattle.job.specs.Encoding.{_∈_}
 use Rattle.job.specs.declared.Literal.{Literal}
 use Rattle.job.specs.declared.Literal.the-variants.{Plain, Negated}
-use Rattle.model.specs.Model.{Body, Program, step, D, K, U, Verdict, Undefined, judge, verdict, exchangedBodies, exchange}
-use Rattle.model.proofs.Bodies.{settled-claim}
-use Rattle.model.proofs.LeastSet.{step-inside, step-of, step-by, D-closed, D-least, D-inside, D-antitone}
-use Rattle.model.proofs.Alternation.{K-fix, K-least, K⊆U, verdict-undefined}
+use Rattle.semantics.specs.Model.{Body, Program, step, D, K, U, Verdict, Undefined, judge, verdict, exchangedBodies, exchange}
+use Rattle.semantics.proofs.Bodies.{settled-claim}
+use Rattle.semantics.proofs.LeastSet.{step-inside, step-of, step-by, D-closed, D-least, D-inside, D-antitone}
+use Rattle.semantics.proofs.Alternation.{K-fix, K-least, K⊆U, verdict-undefined}
 
 pub record Extends (P E : Program) : Type 0 where
   pub oneMore : E .claims ≡ suc (P .claims)

@@ -12,7 +12,7 @@ use lib.Dec.{eqb}
 use Rattle.job.specs.Job.{Rule, claimOf}
 use Rattle.job.specs.Encoding.{_∈_}
 use Rattle.job.specs.declared.Literal.{Literal}
-use Rattle.model.specs.Model.{Body, bodiesBy, Verdict, True, False, Undefined, settled}
+use Rattle.semantics.specs.Model.{Body, bodiesBy, Verdict, True, False, Undefined, settled}
 
 module _ (f : Rule → Body) where
   abbrev pub RuleBy : List Rule → ℕ → Body → Type 0
