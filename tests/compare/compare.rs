@@ -3,6 +3,8 @@
 use std::hint::black_box;
 
 use oracle::checks::{Job, Refusal};
+use oracle::clear::{standings, Standing};
+use oracle::clear_sorts;
 use oracle::missing_sorts::{count_model, Met, SORTS};
 use oracle::model::{well_founded, Program, Verdict};
 use oracle::orders::{Missing, Orders, MISREADINGS};
@@ -30,7 +32,17 @@ pub struct Totals {
     pub missing: Met,
     /// Jobs that wrong readings of order 2 would refuse or give other verdicts.
     pub misread: [usize; 4],
+    /// Claims by whether they are clear (order 9).
+    pub clear: clear_sorts::Met,
     pub differences: usize,
+}
+
+/// What evaluating a job must give.
+struct Evaluation {
+    checked: Result<usize, Refusal>,
+    values: Vec<u8>,
+    /// Per claim: it is clear (order 9), so that it is not undefined.
+    clear: Vec<bool>,
 }
 
 /// The code for an answer, by the layout that the header file gives.
@@ -64,14 +76,17 @@ impl Totals {
         let checked = job.as_ref().map(|job| job.claims).map_err(|&refusal| refusal);
         self.count(&checked);
         self.expect(name, "check", code_of(&checked), library::check_code(bytes));
-        let model = job.as_ref().map_or(Vec::new(), |job| well_founded(&Program::of_job(job)));
+        let mut right = Evaluation { checked, values: Vec::new(), clear: Vec::new() };
         if let Ok(job) = &job {
+            let (model, standings) = (well_founded(&Program::of_job(job)), standings(job));
             self.count_verdicts(bytes, job, &model);
+            clear_sorts::count_model(&standings, &model, &mut self.clear);
+            right.values = model.iter().map(|&verdict| verdict as u8).collect();
+            right.clear = standings.iter().map(Standing::clear).collect();
         }
-        let values: Vec<u8> = model.iter().map(|&verdict| verdict as u8).collect();
-        let lengths = if job.is_ok() { interesting_lengths(values.len()) } else { vec![0, 50] };
+        let lengths = if job.is_ok() { interesting_lengths(right.values.len()) } else { vec![0, 50] };
         for length in lengths {
-            self.compare_output(name, bytes, &checked, &values, length);
+            self.compare_output(name, bytes, &right, length);
         }
         if *black_box(bytes) != kept[..] {
             self.differ(name, "the job's bytes were changed");
@@ -79,18 +94,11 @@ impl Totals {
     }
 
     /// One evaluation into `length` bytes between guards.
-    fn compare_output(
-        &mut self,
-        name: &str,
-        bytes: &[u8],
-        checked: &Result<usize, Refusal>,
-        values: &[u8],
-        length: usize,
-    ) {
-        let fits = length >= values.len();
-        let answer = match checked {
-            Ok(claims) if !fits => Err(Refusal { number: 13, place: *claims }),
-            other => *other,
+    fn compare_output(&mut self, name: &str, bytes: &[u8], right: &Evaluation, length: usize) {
+        let values = &right.values;
+        let answer = match right.checked {
+            Ok(claims) if length < claims => Err(Refusal { number: 13, place: claims }),
+            other => other,
         };
         let mut expected: Vec<u8> = (0..length + 2 * GUARD).map(filling).collect();
         let mut lent = expected.clone();
@@ -104,6 +112,17 @@ impl Totals {
         if let Some(at) = (0..lent.len()).find(|&at| lent[at] != expected[at]) {
             let place = at as i64 - GUARD as i64;
             self.differ(name, &format!("{what}: byte {place} is {}, expected {}", lent[at], expected[at]));
+        }
+        if answer.is_ok() {
+            self.expect_clear(name, &what, &right.clear, &lent[GUARD..]);
+        }
+    }
+
+    /// No clear claim is undefined.
+    fn expect_clear(&mut self, name: &str, what: &str, clear: &[bool], verdicts: &[u8]) {
+        let undefined = |&claim: &usize| clear[claim] && verdicts[claim] == Verdict::Undefined as u8;
+        if let Some(claim) = (0..clear.len()).find(undefined) {
+            self.differ(name, &format!("{what}: claim {claim} is clear and undefined"));
         }
     }
 
@@ -132,16 +151,20 @@ impl Totals {
         add(&mut self.verdicts, &other.verdicts);
         add(&mut self.missing, &other.missing);
         add(&mut self.misread, &other.misread);
+        add(&mut self.clear, &other.clear);
     }
 
-    /// Under order 2 the gate must meet every sort of claim with a missing record,
-    /// and jobs that show each wrong reading.
+    /// The gate must meet every sort of claim that is clear or isn't, under order 2
+    /// every sort of claim with a missing record, and jobs that show each wrong
+    /// reading.
     pub fn expect_all_met(&mut self) {
+        let mut names = unmet(clear_sorts::sorts(Orders::in_force()), &self.clear);
         if Orders::in_force().missing != Missing::Off {
-            let readings = MISREADINGS.map(|(name, _)| name);
-            for name in [unmet(&SORTS, &self.missing), unmet(&readings, &self.misread)].concat() {
-                self.differ("the gate", &format!("{name}: never met"));
-            }
+            names.extend(unmet(&SORTS, &self.missing));
+            names.extend(unmet(&MISREADINGS.map(|(name, _)| name), &self.misread));
+        }
+        for name in names {
+            self.differ("the gate", &format!("{name}: never met"));
         }
     }
 
@@ -152,6 +175,7 @@ impl Totals {
         println!("verdicts true {}, false {}, undefined {}", self.verdicts[1], self.verdicts[2], self.verdicts[3]);
         println!("{} jobs with missing records: {}", self.missing_jobs, listed(&SORTS, &self.missing));
         println!("wrong readings shown: {}", listed(&MISREADINGS.map(|(name, _)| name), &self.misread));
+        println!("claims by order 9: {}", listed(clear_sorts::sorts(Orders::in_force()), &self.clear));
         if self.differences > 0 {
             println!("a made job alone: compare made KIND SEED 1");
         }

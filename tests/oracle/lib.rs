@@ -5,6 +5,10 @@
 //! tests/build makes it a library and the program `oracle` (commands.rs).
 
 pub mod checks;
+pub mod clear;
+pub mod clear_check;
+pub mod clear_readings;
+pub mod clear_sorts;
 pub mod damage;
 pub mod draft;
 pub mod edges;
@@ -12,6 +16,7 @@ pub mod explore;
 pub mod failing;
 pub mod family;
 pub mod faulty;
+pub mod groups;
 pub mod jobs;
 pub mod large;
 pub mod leads;
@@ -35,6 +40,7 @@ pub mod shapes;
 pub mod shortcuts;
 pub mod small_fields;
 pub mod table;
+pub mod textbook;
 pub mod turns;
 pub mod values;
 pub mod worked;

@@ -2,6 +2,8 @@
 //! small jobs, shortcuts beside the text, and wrong readings that must be found.
 
 use crate::checks::{part_input, word_at, Job};
+use crate::clear_check::{self, readings_shown, ClearTotals};
+use crate::clear_sorts::sorts;
 use crate::draft::{Draft, Random};
 use crate::explore::{explore_job, turn_as_worded, Met, TurnOf};
 use crate::family::{explore_family, family_size};
@@ -164,6 +166,26 @@ impl Checked {
         self.faults.extend(unmet.map(|(sort, _)| format!("never met: {sort}")));
     }
 
+    /// What order 9 says, in second ways, and wrong readings of it.
+    fn clear_in_other_ways(&mut self) {
+        let mut totals = ClearTotals::default();
+        self.faults.extend(clear_check::check_worked(worded()));
+        self.faults.extend(clear_check::check_slice(worded(), &mut totals));
+        self.lines.push(format!(
+            "order 9 in second ways: {} jobs, {} with missing records; {} models by all unfounded sets, clear claims \
+             of {} path by path; claims by sort {:?}",
+            totals.jobs, totals.with_missing, totals.by_sets, totals.by_paths, totals.sorts
+        ));
+        let unmet = sorts(worded()).iter().zip(totals.sorts).filter(|(_, count)| *count == 0);
+        self.faults.extend(unmet.map(|(sort, _)| format!("never met: {sort}")));
+        for (name, job) in readings_shown(worded()) {
+            match job {
+                Some(job) => self.lines.push(format!("order 9, {name}: shown by {job}")),
+                None => self.faults.push(format!("no job of the family shows a wrong reading of order 9: {name}")),
+            }
+        }
+    }
+
     fn faults_found(&mut self) {
         for (name, found) in seeded_faults(3000) {
             match found {
@@ -198,6 +220,7 @@ pub fn check_orders() -> Checked {
         checked.turns_under(numbers, 4);
     }
     checked.missing_in_other_ways();
+    checked.clear_in_other_ways();
     checked.faults_found();
     for kind in ["tiny", "small", "failing"] {
         checked.readings_told_apart(kind);
