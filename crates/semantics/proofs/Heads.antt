@@ -1,7 +1,6 @@
 -- The heads of the rules all of whose literals pass a test, by the rule (specs/Model: heads). Assumes nothing.
 --   pass-each, each-pass     a body that passes, by its literals
 --   one-fails                a body that does not pass has a literal that does not
---   any-of                   from a body that passes
 --   heads-of, heads-by       from the rule, and back to it
 --   heads-inside             a head is a claim
 --   heads-more               a test that more literals pass
@@ -36,7 +35,7 @@ module _ (test : Literal → Bool) where
       (λ y. let r = one-fails b (λ t. n (and-in (test l) (allPass test b) y t)) in (r .0, List·Memᴰ·tail (r .1), r .2))
       (λ f. (l, List·Memᴰ·head refl, f))
 
-  pub any-of : (bs : List Body) (b : Body) → b ∈ bs → T (allPass test b) → T (anyPass test bs)
+  any-of : (bs : List Body) (b : Body) → b ∈ bs → T (allPass test b) → T (anyPass test bs)
   any-of [] b m t = absurd (List·Memᴰ·not-nil m)
   any-of (x ∷ bs) b m t =
       ⊎-elim (λ e. or-left (allPass test x) (anyPass test bs) (subst (λ (y : Body). T (allPass test y)) e t))

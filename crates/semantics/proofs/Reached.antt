@@ -44,7 +44,7 @@ operator P I =
     }
 
 module _ (P : Program) where
-  pub W-more : (I J : Interpretation) → I ⊑ J → W P I ⊑ W P J
+  W-more : (I J : Interpretation) → I ⊑ J → W P I ⊑ W P J
   W-more I J below (Plain c) t = heads-more P I J below c t
   W-more I J below (Negated c) t = unfounded-more P I J below c t
 

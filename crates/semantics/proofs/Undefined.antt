@@ -18,7 +18,7 @@ use Rattle.job.specs.declared.Literal.{Literal}
 use Rattle.job.specs.declared.Literal.the-variants.{Plain, Negated}
 use Rattle.semantics.specs.Model.{Body, bodyOf, program, programOf, allPass, Undefined, verdict}
 use Rattle.semantics.specs.Missing.{Missing, asWritten}
-use Rattle.semantics.specs.Leads.{Uses, Leads, LeadsTo, LeadsBack, Clear, Layered, lower, inLayers, NotUndefined}
+use Rattle.semantics.specs.Leads.{Uses, Leads, ThroughNegation, LeadsTo, LeadsBack, Clear, Layered, lower, inLayers, NotUndefined}
 use Rattle.semantics.proofs.Heads.{pass-each}
 use Rattle.semantics.proofs.Bodies.{bodies-at, bodies-out}
 use Rattle.semantics.proofs.Extended.{either, body-own}
@@ -28,11 +28,11 @@ module _ (j : Job) where
   abbrev Reason : ℕ → Type 0
   Reason c = (d : ℕ) × LeadsTo j c d × (LeadsBack j d ⊎ Missing j d)
 
-  use-or : (c : ℕ) (l : Literal) → Uses (programOf j) c l → Uses (asWritten j) c l ⊎ Missing j c
+  use-or : (c : ℕ) (l : Literal) → Uses (programOf j) c l → Uses (asWritten j) c l ⊎ Reason c
   unfolding program
   use-or c l (b, r, m) =
       let q = bodies-out bodyOf (j .rules) c b (r .1) in
-      either (q .0 .missing) (λ e. inr (q .0, q .1, q .2, e))
+      either (q .0 .missing) (λ e. inr (c, here, inr (q .0, q .1, q .2, e)))
       (λ e.
       inl (q .0 .body, (r .0, bodies-at (λ (x : Rule). x .body) (j .rules) (q .0) c (q .1) (q .2)), subst (λ (x : Body). l ∈ x) (q .3 ∙ body-own (q .0) e) m))
 
@@ -43,23 +43,23 @@ module _ (j : Job) where
   path-or : {c d : ℕ} → Reach (Leads (programOf j)) c d → LeadsTo j c d ⊎ Reason c
   path-or here = inl here
   path-or (step {x = c} (l, u, e) p) =
-      ⊎-elim
-      (λ v. ⊎-elim (λ q. inl (step (l, v, e) q)) (λ w. inr (further (one (l, v, e)) w)) (path-or p))
-      (λ m. inr (c, here, inr m)) (use-or c l u)
+      ⊎-elim (λ v. ⊎-elim (λ q. inl (step (l, v, e) q)) (λ w. inr (further (one (l, v, e)) w)) (path-or p)) inr (use-or c l u)
+
+  -- where a reason was met, that one
+  unless : {A : Type 0} {c : ℕ} → A ⊎ Reason c → (A → Reason c) → Reason c
+  unless (inl a) f = f a
+  unless (inr w) f = w
+
+  -- the ring that undefined claims lead to, step by step by the job's rules
+  around : (c : ℕ) → (d : ℕ) × Reach (Leads (programOf j)) c d × ThroughNegation (programOf j) d d → Reason c
+  around c (d, r, (x, y, p, n, q)) =
+      unless (path-or r) (λ to. further to (
+      unless (path-or p) (λ there. further there (
+      unless (use-or x (Negated y) n) (λ denied. further (one (Negated y, denied, refl)) (
+      unless (path-or q) (λ back. (d, back, inl (x, y, there, denied, back)))))))))
 
   cause : (c : ℕ) → verdict (programOf j) c ≡ Undefined → Reason c
-  cause c e =
-      let r = undefined-ring (programOf j) c e in
-      let t = r .2 in
-      ⊎-elim
-      (λ to. further to
-      (⊎-elim
-      (λ p.
-      ⊎-elim
-      (λ n. ⊎-elim (λ q. (r .0, here, inl (t .0, t .1, p, n, q))) (further (trans p (one (Negated (t .1), n, refl)))) (path-or (t .4)))
-      (λ m. (t .0, p, inr m)) (use-or (t .0) (Negated (t .1)) (t .3)))
-      (λ w. w) (path-or (t .2))))
-      (λ w. w) (path-or (r .1))
+  cause c e = around c (undefined-ring (programOf j) c e)
 
   module _ (c : ℕ) (layer : ℕ → ℕ) (in-layers : Layered j c layer) where
     not-higher : (x : ℕ) (l : Literal) → LeadsTo j c x → Uses (asWritten j) x l → layer (claimOf l) ≤ layer x

@@ -18,7 +18,6 @@ use Rattle.base.specs.Span.{span}
 use Rattle.job.specs.Job.{Rule, Job, _if_, missingRecord}
 use Rattle.job.specs.Encoding.{encode}
 use Rattle.job.specs.Checks.{checkJob}
-use Rattle.job.specs.declared.Check.{Check}
 use Rattle.job.specs.declared.Check.the-variants.{Accepted}
 use Rattle.job.specs.declared.Literal.the-variants.{Plain, Negated}
 use Rattle.semantics.specs.Model.{program, Verdict, True, False, Undefined, verdict, verdicts}
