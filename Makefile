@@ -1,25 +1,28 @@
-# make run      builds the listing program, and lists an example field
-# make c        builds the library, and runs the example in C on it
+# make run      builds the programs makejob and verdicts, and lists a first example
+# make c        builds the library, and runs the examples in C
 # make test     the proofs from nothing, then all tests: what the gate does
 # make bench    plain evaluation and runs beside other evaluators, as ratios
 SHELL = /bin/bash
 .SHELLFLAGS = -o pipefail -c
-.PHONY: run program c library test bench clean
+.PHONY: run programs c library test bench clean
+compile = cc -std=c11 -Wall -Wextra -O2 -Iinclude
 
 # shown: a line for each crate that is proved
-program:
-	rt check verdicts | grep '^rt:'
+programs:
+	rt check makejob verdicts | grep '^rt:'
 
-run: program
-	target/bin/verdicts < examples/fields/field.field
+run: programs
+	target/bin/makejob < examples/fields/first.rules | target/bin/verdicts
 
 library:
 	rt staticlib zestchintz
 
-c: library
+c: library programs
 	mkdir -p target/examples
-	cc -std=c11 -Wall -Wextra -O2 -Iinclude -o target/examples/plain examples/c/plain.c target/staticlib/libzestchintz.a
+	$(compile) -o target/examples/plain examples/c/plain.c target/staticlib/libzestchintz.a
 	target/examples/plain
+	$(compile) -o target/examples/parallax examples/c/parallax.c
+	target/examples/parallax | cat - examples/fields/parallax.schedule | target/bin/verdicts
 
 test:
 	.ci/run

@@ -11,6 +11,7 @@ use crate::clear_sorts::{count_model, Met};
 use crate::draft::Draft;
 use crate::family::{family_job, family_size};
 use crate::jobs::generate;
+use crate::lines::in_words;
 use crate::missing::extension;
 use crate::missing_check::alternating;
 use crate::model::{well_founded, Program, Verdict};
@@ -85,7 +86,7 @@ fn check_seed(kind: &str, seed: u64, orders: Orders, totals: &mut ClearTotals) -
         return Ok(());
     };
     check_job(&job, totals).map_err(|fault| match job.claims {
-        0..=FEW_CLAIMS => format!("{fault}: {}", job.in_words()),
+        0..=FEW_CLAIMS => format!("{fault}: {}", in_words(&job)),
         _ => fault,
     })
 }
@@ -155,7 +156,7 @@ pub fn readings_shown(orders: Orders) -> Vec<(&'static str, Option<String>)> {
     let job = |number: u64| Job::check(&family_job(number, 1, orders).job_bytes(), orders).ok();
     let shown = |reading: Reading, shows: Shows| {
         let mut jobs = (0..family_size(orders)).filter_map(job);
-        jobs.find(|job| shows(job, reading)).map(|job| job.in_words())
+        jobs.find(|job| shows(job, reading)).map(|job| in_words(&job))
     };
     wrong.into_iter().chain([strict]).map(|(name, reading, shows)| (name, shown(reading, shows))).collect()
 }

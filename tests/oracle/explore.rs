@@ -4,6 +4,7 @@
 use std::collections::HashMap;
 
 use crate::checks::Job;
+use crate::lines::in_words;
 use crate::model::{well_founded, Program, Verdict};
 use crate::orders::{Orders, Skip};
 use crate::promises::{check_end, check_values, ensure};
@@ -277,5 +278,5 @@ pub fn explore_job(bytes: &[u8], orders: Orders, turn: TurnOf, most: usize, met:
     let (job, worded) = (checked(orders)?, checked(orders.as_worded())?);
     let mut explorer = Explorer::new(&job, orders, turn, well_founded(&Program::of_job(&worded)));
     let found = explorer.explore(most, met).and_then(|()| explorer.check_rounds(met));
-    found.map_err(|fault| format!("{fault}: {}", worded.in_words()))
+    found.map_err(|fault| format!("{fault}: {}", in_words(&worded)))
 }

@@ -1,5 +1,5 @@
-//! Checks of the turns under the change orders: edge cases, all schedules of
-//! small jobs, shortcuts beside the text, and wrong readings that must be found.
+//! Checks of what the change orders say.  Of the turns: edge cases, all schedules
+//! of small jobs, shortcuts beside the text, and wrong readings that must be found.
 
 use crate::checks::{part_input, word_at, Job};
 use crate::clear_check::{self, readings_shown, ClearTotals};
@@ -9,6 +9,8 @@ use crate::explore::{explore_job, turn_as_worded, Met, TurnOf};
 use crate::family::{explore_family, family_size};
 use crate::faulty::{awaited_only_taken, losers_woken, never_taken};
 use crate::jobs::generate;
+use crate::lines_check::{self, LinesTotals};
+use crate::lines_sorts;
 use crate::missing_check::{check_slice, MissingTotals};
 use crate::missing_jobs::add_missing;
 use crate::missing_sorts::SORTS;
@@ -147,6 +149,21 @@ impl Checked {
         }
     }
 
+    /// What order 1 says, in second ways.
+    fn lines_in_other_ways(&mut self) {
+        let mut totals = LinesTotals::default();
+        self.faults.extend(lines_check::check_edges(&mut totals));
+        let edges = totals.texts;
+        self.faults.extend(lines_check::check_seeds(0..6000, &mut totals));
+        self.lines.push(format!(
+            "order 1 in second ways: {edges} edge cases, {} texts by both readings, {} accepted and read back; by \
+             sort {:?}",
+            totals.texts, totals.accepted, totals.sorts
+        ));
+        let unmet = lines_sorts::SORTS.iter().zip(totals.sorts).filter(|(_, count)| *count == 0);
+        self.faults.extend(unmet.map(|(sort, _)| format!("never met: {sort}")));
+    }
+
     /// What order 2 says, in second ways.
     fn missing_in_other_ways(&mut self) {
         let mut totals = MissingTotals::default();
@@ -219,6 +236,7 @@ pub fn check_orders() -> Checked {
     for numbers in [&[2][..], &[5], &[]] {
         checked.turns_under(numbers, 4);
     }
+    checked.lines_in_other_ways();
     checked.missing_in_other_ways();
     checked.clear_in_other_ways();
     checked.faults_found();

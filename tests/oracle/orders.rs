@@ -2,8 +2,9 @@
 
 use std::sync::OnceLock;
 
-/// All orders that have landed.
-const LANDED: [u32; 2] = [2, 5];
+/// The orders that have landed and change what calls from before them give.  Orders
+/// 1, which adds a call, and 9, which says more of the model, don't.
+const CHANGING: [u32; 2] = [2, 5];
 
 /// Names other ones than these, for a library from before one of them: their
 /// numbers, commas between; 0 or nothing for none.
@@ -77,18 +78,20 @@ impl Orders {
         }
     }
 
-    /// Those that have landed, or those that ZESTCHINTZ_ORDERS names.
+    /// All of `CHANGING`, or those that ZESTCHINTZ_ORDERS names.
     pub fn in_force() -> Orders {
         static IN_FORCE: OnceLock<Orders> = OnceLock::new();
         *IN_FORCE.get_or_init(|| match std::env::var(VARIABLE) {
-            Err(_) => Orders::of(&LANDED),
-            Ok(list) => Orders::named(&list).unwrap_or_else(|| panic!("{VARIABLE}={list} names no orders that landed")),
+            Err(_) => Orders::of(&CHANGING),
+            Ok(list) => {
+                Orders::named(&list).unwrap_or_else(|| panic!("{VARIABLE}={list}: its orders are {CHANGING:?}"))
+            }
         })
     }
 
     fn named(list: &str) -> Option<Orders> {
         let words = list.split(',').filter(|&word| !word.is_empty() && word != "0");
         let numbers: Vec<u32> = words.map(str::parse).collect::<Result<_, _>>().ok()?;
-        numbers.iter().all(|number| LANDED.contains(number)).then(|| Orders::of(&numbers))
+        numbers.iter().all(|number| CHANGING.contains(number)).then(|| Orders::of(&numbers))
     }
 }

@@ -12,17 +12,17 @@ use crate::format;
 
 const HEADER_BYTES: usize = 36;
 
-const MOST_BYTES: usize = 61476;
+pub const MOST_BYTES: usize = 61476;
 
-const MOST_CLAIMS: usize = 4096;
+pub const MOST_CLAIMS: usize = 4096;
 
-const MOST_RULES: usize = 6144;
+pub const MOST_RULES: usize = 6144;
 
-const MOST_LITERALS: usize = 16384;
+pub const MOST_LITERALS: usize = 16384;
 
-const MOST_WORKERS: usize = 32;
+pub const MOST_WORKERS: usize = 32;
 
-const MOST_QUESTIONS: usize = 1024;
+pub const MOST_QUESTIONS: usize = 1024;
 
 fn refused(number: u32, place: usize) -> Check
     ensures { λ r. ⌜ r ≡ Check.Refused number place ⌝ }

@@ -12,6 +12,7 @@ use lib.ListN.{length, getD, take, drop, replicate, length-append, length-drop, 
 use lib.Seq.{take-length}
 use Rattle.base.proofs.Choose.{pick-true, pick-false}
 use Rattle.base.proofs.Compare.{over-le, under-yes, under-no}
+use Rattle.writing.specs.Written.{Put, wrote}
 use Rattle.job.specs.Accepted.{WellFormed}
 use Rattle.job.specs.Checks.{checkJob}
 use Rattle.job.specs.Format.{workers, jobOf}
@@ -22,7 +23,6 @@ use Rattle.job.proofs.Rows.{both, row-no}
 use Rattle.job.proofs.Written.{questions-count}
 use Rattle.table.specs.Layout.{used}
 use Rattle.turns.proofs.Answering.{schedule-low}
-use Rattle.listing.specs.Text.{Put, wrote}
 use Rattle.listing.specs.Listing.{jobEnd, jobPart, schedulePart, listingCheck, refusalLine, listed, listingIf, listing, roomLength, roomBytes}
 
 pub record AcceptedInput (i : List ℕ) : Type 0 where

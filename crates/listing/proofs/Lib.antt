@@ -1,6 +1,4 @@
-pub mod Decimal
-pub mod Wrote
-pub mod Digits
+pub mod Names
 pub mod Runs
 pub mod Finishing
 pub mod Finished

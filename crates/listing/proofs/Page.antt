@@ -8,6 +8,9 @@ use mathlib.Core.List.{List, [], _∷_, _++_, flatMap}
 use native.Mathlib.Omega.{arith}
 use lib.ListN.{length, replicate}
 use Rattle.base.specs.Lists.{upto}
+use Rattle.writing.specs.Decimal.{decimal}
+use Rattle.writing.specs.Written.{Put}
+use Rattle.writing.proofs.Decimal.{length-room}
 use Rattle.job.specs.Job.{Job}
 use Rattle.job.specs.Accepted.{WellFormed}
 use Rattle.job.specs.Format.{claims, questions, jobOf}
@@ -16,9 +19,8 @@ use Rattle.table.specs.Layout.{used}
 use Rattle.table.specs.Start.{startWords}
 use Rattle.turns.specs.Turn.{runTable, runKinds}
 use Rattle.turns.specs.Calls.{tally}
-use Rattle.listing.specs.Text.{Put, decimal, lineEnd, claimsWord, questionsWord}
+use Rattle.listing.specs.Text.{lineEnd, claimsWord, questionsWord}
 use Rattle.listing.specs.Listing.{claimLine, questionLines, tallyLine, heading, textOf, played, lastTable, listed}
-use Rattle.listing.proofs.Decimal.{length-room}
 use Rattle.listing.proofs.Runs.{Run, run-start, run-more}
 
 module _ {buf o₁ o₂ o₃ : List ℕ} {at r₁ r₂ r₃ : ℕ} where

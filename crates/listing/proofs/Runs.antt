@@ -16,6 +16,10 @@ use lib.Seq.{take-length}
 use Rattle.base.specs.Span.{span}
 use Rattle.base.specs.Lists.{upto}
 use Rattle.base.proofs.Span.{length-span, span-snoc}
+use Rattle.writing.specs.Decimal.{decimal}
+use Rattle.writing.specs.Written.{Put}
+use Rattle.writing.proofs.Decimal.{length-room}
+use Rattle.writing.proofs.Wrote.{put-none, put-put, put-size}
 use Rattle.job.specs.Bytes.{half}
 use Rattle.job.specs.Job.{Job}
 use Rattle.job.specs.Accepted.{WellFormed}
@@ -25,10 +29,9 @@ use Rattle.table.specs.declared.Reading.{Reading}
 use Rattle.table.specs.Reading.{readingOf}
 use Rattle.table.specs.Layout.{used, mark, answerWord}
 use Rattle.turns.specs.Calls.{counted, tally}
-use Rattle.listing.specs.Text.{Put, decimal, blank, lineEnd, refusedWord, tallyWord, nameOf}
+use Rattle.listing.specs.Text.{blank, lineEnd, refusedWord, tallyWord, nameOf}
 use Rattle.listing.specs.Listing.{refusalLine, claimLine, countText, tallyLine, answerLine, questionLine, questionLines, lineOf}
-use Rattle.listing.proofs.Decimal.{length-room}
-use Rattle.listing.proofs.Wrote.{put-none, put-put, put-size, name-room}
+use Rattle.listing.proofs.Names.{name-room}
 
 pub record Run (buf : List ℕ) (at n : ℕ) (s out : List ℕ) (r : ℕ) : Type 0 where
   pub put : Put buf at s out r

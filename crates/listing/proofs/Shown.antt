@@ -17,6 +17,7 @@ use lib.ListN.{length, getD, replicate, length-append, length-replicate}
 use Rattle.base.specs.Choose.{pick}
 use Rattle.base.specs.Span.{span}
 use Rattle.base.specs.Lists.{upto}
+use Rattle.writing.specs.Decimal.{decimal}
 use Rattle.job.specs.Job.{Job}
 use Rattle.job.specs.Checks.{checkJob}
 use Rattle.job.specs.Format.{rules, literals, questions, questionAt, jobOf}
@@ -45,7 +46,7 @@ use Rattle.turns.proofs.RulesBehind.{stands-behind}
 use Rattle.turns.proofs.Answers.{complete-mark, mark-complete}
 use Rattle.turns.proofs.OnLists.{valid, ok}
 use Rattle.turns.proofs.Histories.{low-append, low-all}
-use Rattle.listing.specs.Text.{decimal, blank, lineEnd, claimsWord, questionsWord, refusedWord, nameOf, unopenedName}
+use Rattle.listing.specs.Text.{blank, lineEnd, claimsWord, questionsWord, refusedWord, nameOf, unopenedName}
 use Rattle.listing.specs.Finish.{finishTurns, most}
 use Rattle.listing.specs.Listing.{jobPart, schedulePart, listingCheck, refusalLine, claimLine, questionLines, tallyLine, heading, textOf, questionLine, played, lastTable, listed, listingIf, listing}
 use Rattle.listing.specs.Told.{wordOf, verdictLine, Shows, Told}

@@ -21,6 +21,8 @@ use lib.ListN.{length, getD, take, drop, replicate}
 use Rattle.base.specs.Choose.{pick}
 use Rattle.base.specs.Compare.{under, over}
 use Rattle.base.specs.Lists.{upto}
+use Rattle.writing.specs.Decimal.{decimal}
+use Rattle.writing.specs.Written.{wrote}
 use Rattle.job.specs.Bytes.{word}
 use Rattle.job.specs.Job.{Job}
 use Rattle.job.specs.Format.{rules, literals, questionAt, jobOf}
@@ -35,7 +37,7 @@ use Rattle.table.specs.Start.{startWords}
 use Rattle.table.specs.Reading.{readingOf}
 use Rattle.turns.specs.Turn.{runTable, runKinds}
 use Rattle.turns.specs.Calls.{checkSchedule, tally}
-use Rattle.listing.specs.Text.{decimal, blank, lineEnd, claimsWord, questionsWord, tallyWord, refusedWord, nameOf, wrote}
+use Rattle.listing.specs.Text.{blank, lineEnd, claimsWord, questionsWord, tallyWord, refusedWord, nameOf}
 use Rattle.listing.specs.Finish.{finishTurns, most}
 
 -- "Standard input holds a job, then schedule bytes; the first word says where the job ends; where it is absent or above the input's length, all input counts as job."

@@ -1,31 +1,11 @@
--- The text of a listing as ASCII bytes (01: "The listing program").
---   digit d              the byte of a digit below 10
---   decimal n            n in decimal, with no zero in front: specs/Laws has the equations (Decimals)
+-- The words of a listing as ASCII bytes (01: "The listing program"). Its numbers are `decimal` (writing/specs/Decimal).
 --   claimsWord, questionsWord, tallyWord, refusedWord   `claims `, `questions `, `tally`, `refused `
 --   nameOf r             the value's name that a reading shows, or `unopened`
 --   blank, lineEnd       a space; a line feed
---   wrote buf at text    the bytes of buf once text is written at `at`
---   Put buf at text out r   what a function that writes text ensures: the bytes it leaves, and the place after the text
-use Prim.Native.Nat.{ℕ, zero, suc, _+_, _/_, _%_}
-use mathlib.Core.Path.{_≡_}
-use mathlib.Core.List.{List, [], _∷_, _++_}
-use lib.ListN.{length, take, drop}
-use Rattle.base.specs.Choose.{pick}
-use Rattle.base.specs.Compare.{under}
+use Prim.Native.Nat.{ℕ}
+use mathlib.Core.List.{List, [], _∷_}
 use Rattle.table.specs.declared.Reading.{Reading}
 use Rattle.table.specs.declared.Reading.the-variants.{Fresh, Open, True, False, Undefined}
-
-abbrev pub digit : ℕ → ℕ
-digit d = 48 + d
-
--- n in decimal, by at most k divisions
-unfoldable pub decimalIn : ℕ → ℕ → List ℕ
-decimalIn zero n = digit n ∷ []
-decimalIn (suc k) n = pick (under n 10) (digit n ∷ []) (decimalIn k (n / 10) ++ (digit (n % 10) ∷ []))
-
--- n divisions are enough for n
-unfoldable pub decimal : ℕ → List ℕ
-decimal n = decimalIn n n
 
 abbrev pub blank : ℕ
 blank = 32
@@ -63,10 +43,3 @@ nameOf Open = unopenedName
 nameOf True = trueName
 nameOf False = falseName
 nameOf Undefined = undefinedName
-
-unfoldable pub wrote : List ℕ → ℕ → List ℕ → List ℕ
-wrote buf at text = take at buf ++ text ++ drop (at + length text) buf
-
-pub record Put (buf : List ℕ) (at : ℕ) (text out : List ℕ) (r : ℕ) : Type 0 where
-  pub bytes : out ≡ wrote buf at text
-  pub next : r ≡ at + length text

@@ -7,6 +7,7 @@ use Prim.Native.Nat.{ℕ, _<_, _≤_}
 use mathlib.Core.Path.{_≡_}
 use mathlib.Core.List.{List, [], _∷_, _++_, flatMap}
 use lib.ListN.{length}
+use Rattle.writing.specs.Decimal.{decimal}
 use Rattle.job.specs.Job.{Job}
 use Rattle.job.specs.Format.{jobOf}
 use Rattle.job.specs.declared.Check.the-variants.{Accepted}
@@ -20,7 +21,7 @@ use Rattle.table.specs.Reading.{readingOf}
 use Rattle.table.specs.declared.Reading.the-variants.{Open}
 use Rattle.turns.specs.Lists.{Complete}
 use Rattle.turns.specs.Promise.{Asked, OthersBehind}
-use Rattle.listing.specs.Text.{decimal, blank, lineEnd, trueName, falseName, undefinedName, unopenedName}
+use Rattle.listing.specs.Text.{blank, lineEnd, trueName, falseName, undefinedName, unopenedName}
 use Rattle.listing.specs.Listing.{jobPart, schedulePart, listingCheck, claimLine, questionLines, lastTable, listing}
 
 abbrev pub wordOf : Verdict → List ℕ

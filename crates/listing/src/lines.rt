@@ -5,25 +5,28 @@ ghost use mathlib.Core.List.{flatMap};
 ghost use Prim.Native.Nat.{_+_, _*_, _<_, _≤_};
 ghost use lib.ListN.{length};
 ghost use Rattle.base.specs.Lists.{upto};
+ghost use Rattle.writing.specs.Written.{Put};
 ghost use Rattle.job.specs.Accepted.{WellFormed};
 ghost use Rattle.job.specs.Format.{jobOf, questions};
 ghost use Rattle.job.specs.Job.{mostClaims};
 ghost use Rattle.table.specs.Layout.{used};
-ghost use Rattle.listing.specs.Text.{Put, claimsWord, questionsWord};
+ghost use Rattle.listing.specs.Text.{claimsWord, questionsWord};
 ghost use Rattle.listing.specs.Listing.{refusalLine, claimLine, countText, tallyLine, answerLine, lineOf, questionLines, heading, mostText, textOf};
 use crate::text;
 use job::format;
 use table::words;
+use writing::number;
+use writing::put;
 
 pub fn put_refusal(buf: &mut [u8], at: usize, number: u32, place: usize) -> usize
     requires { ⌜ at + 60 ≤ length (now buf) ⌝ }
     ensures { λ r. ⌜ Put (now (buf .entry)) at (refusalLine number place) (now (buf .exit)) r ⌝ }
 {
     let a = text::put_refused(buf, at);
-    let b = text::put_number(buf, a, number as u64);
-    let c = text::put_byte(buf, b, 32);
-    let d = text::put_number(buf, c, place as u64);
-    text::put_byte(buf, d, 10)
+    let b = number::put_number(buf, a, number as u64);
+    let c = put::put_byte(buf, b, 32);
+    let d = number::put_number(buf, c, place as u64);
+    put::put_byte(buf, d, 10)
 }
 
 pub fn put_claim(buf: &mut [u8], at: usize, table: &[u32], c: usize) -> usize
@@ -31,11 +34,11 @@ pub fn put_claim(buf: &mut [u8], at: usize, table: &[u32], c: usize) -> usize
     requires { ⌜ at + 31 ≤ length (now buf) ⌝ }
     ensures { λ r. ⌜ Put (now (buf .entry)) at (claimLine (now (table .entry)) c) (now (buf .exit)) r ⌝ }
 {
-    let d = text::put_number(buf, at, c as u64);
-    let e = text::put_byte(buf, d, 32);
+    let d = number::put_number(buf, at, c as u64);
+    let e = put::put_byte(buf, d, 32);
     let reading = words::reading_of(words::mark_at(table, c));
     let f = text::put_reading(buf, e, reading);
-    text::put_byte(buf, f, 10)
+    put::put_byte(buf, f, 10)
 }
 
 pub fn put_claim_lines(buf: &mut [u8], at: usize, table: &[u32], claims: usize) -> usize
@@ -58,8 +61,8 @@ fn put_count(buf: &mut [u8], at: usize, n: u64) -> usize
     requires { ⌜ at + 21 ≤ length (now buf) ⌝ }
     ensures { λ r. ⌜ Put (now (buf .entry)) at (countText n) (now (buf .exit)) r × (r ≤ at + 21) ⌝ }
 {
-    let b = text::put_byte(buf, at, 32);
-    text::put_number(buf, b, n)
+    let b = put::put_byte(buf, at, 32);
+    number::put_number(buf, b, n)
 }
 
 pub fn put_tally_line(buf: &mut [u8], at: usize, counts: &[u64; 8]) -> usize
@@ -73,7 +76,7 @@ pub fn put_tally_line(buf: &mut [u8], at: usize, counts: &[u64; 8]) -> usize
         end = put_count(buf, end, counts[i]);
         i += 1;
     }
-    text::put_byte(buf, end, 10)
+    put::put_byte(buf, end, 10)
 }
 
 // The line of a question that this worker asked of this claim, and whose answer reads so.
@@ -87,12 +90,12 @@ fn put_answer(
     requires { ⌜ at + 52 ≤ length (now buf) ⌝ }
     ensures { λ r. ⌜ Put (now (buf .entry)) at (answerLine worker claim reading) (now (buf .exit)) r ⌝ }
 {
-    let b = text::put_number(buf, at, worker as u64);
-    let c = text::put_byte(buf, b, 32);
-    let d = text::put_number(buf, c, claim as u64);
-    let e = text::put_byte(buf, d, 32);
+    let b = number::put_number(buf, at, worker as u64);
+    let c = put::put_byte(buf, b, 32);
+    let d = number::put_number(buf, c, claim as u64);
+    let e = put::put_byte(buf, d, 32);
     let f = text::put_reading(buf, e, reading);
-    text::put_byte(buf, f, 10)
+    put::put_byte(buf, f, 10)
 }
 
 // The line of question k.
@@ -134,8 +137,8 @@ fn put_claim_heading(buf: &mut [u8], at: usize, claims: usize) -> usize
     ensures { λ r. ⌜ Put (now (buf .entry)) at (heading claimsWord claims) (now (buf .exit)) r × (r ≤ at + 31) ⌝ }
 {
     let a = text::put_claims(buf, at);
-    let b = text::put_number(buf, a, claims as u64);
-    text::put_byte(buf, b, 10)
+    let b = number::put_number(buf, a, claims as u64);
+    put::put_byte(buf, b, 10)
 }
 
 // The heading of the question lines.
@@ -144,8 +147,8 @@ fn put_question_heading(buf: &mut [u8], at: usize, questions: usize) -> usize
     ensures { λ r. ⌜ Put (now (buf .entry)) at (heading questionsWord questions) (now (buf .exit)) r × (r ≤ at + 31) ⌝ }
 {
     let a = text::put_questions(buf, at);
-    let b = text::put_number(buf, a, questions as u64);
-    text::put_byte(buf, b, 10)
+    let b = number::put_number(buf, a, questions as u64);
+    put::put_byte(buf, b, 10)
 }
 
 // The whole text of an accepted job, from its table and tally at the end.

@@ -2,10 +2,10 @@
 ghost use mathlib.Core.Path.{_≡_};
 ghost use Prim.Native.Nat.{ℕ, _<_, _≤_};
 ghost use lib.ListN.{length, getD, replicate};
+ghost use Rattle.writing.specs.Written.{Put};
 ghost use Rattle.job.specs.Accepted.{WellFormed};
 ghost use Rattle.job.specs.Format.{workers as workersOf, jobOf};
 ghost use Rattle.table.specs.Layout.{used};
-ghost use Rattle.listing.specs.Text.{Put};
 ghost use Rattle.listing.specs.Listing.{mostInput, mostText, listed, listingCheck, listingIf, roomLength, roomBytes};
 ghost use Rattle.listing.specs.Told.{Told};
 use crate::Listed;

@@ -1,9 +1,9 @@
 -- `listing::lines::put_answer` meets its contract. Assumes nothing.
 use native.Mathlib.Omega.{arith}
 use borrow.Author.Needs.{needs}
+use Rattle.writing.proofs.Decimal.{length-room}
 use Rattle.listing.proofs.Runs.{put-answer-line}
-use Rattle.listing.proofs.Wrote.{name-room}
-use Rattle.listing.proofs.Decimal.{length-room}
+use Rattle.listing.proofs.Names.{name-room}
 use Rattle.listing.proofs.lines.put_answer.Statement.{statement}
 use Rattle.listing.proofs.lines.put_answer.Tie as tie
 

@@ -1,6 +1,6 @@
 -- `listing::lines::put_claim_heading` meets its contract. Assumes nothing.
 use native.Mathlib.Omega.{arith}
-use Rattle.listing.proofs.Decimal.{length-room}
+use Rattle.writing.proofs.Decimal.{length-room}
 use Rattle.listing.proofs.Page.{put-heading}
 use borrow.Author.Needs.{needs}
 use Rattle.listing.proofs.lines.put_claim_heading.Statement.{statement}

@@ -1,8 +1,8 @@
 -- `listing::lines::put_count` meets its contract. Assumes nothing.
 use native.Mathlib.Omega.{arith}
 use borrow.Author.Needs.{needs}
+use Rattle.writing.proofs.Decimal.{length-room}
 use Rattle.listing.proofs.Runs.{put-counted}
-use Rattle.listing.proofs.Decimal.{length-room}
 use Rattle.listing.proofs.lines.put_count.Statement.{statement}
 use Rattle.listing.proofs.lines.put_count.Tie as tie
 

@@ -1,8 +1,8 @@
 -- `listing::lines::put_refusal` meets its contract. Assumes nothing.
 use native.Mathlib.Omega.{arith}
 use borrow.Author.Needs.{needs}
+use Rattle.writing.proofs.Decimal.{length-room}
 use Rattle.listing.proofs.Runs.{put-refusal-line}
-use Rattle.listing.proofs.Decimal.{length-room}
 use Rattle.listing.proofs.lines.put_refusal.Statement.{statement}
 use Rattle.listing.proofs.lines.put_refusal.Tie as tie
 

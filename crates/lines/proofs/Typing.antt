@@ -1,0 +1,173 @@
+-- What the call promises (specs/Laws), from its rows and what it wrote. Assumes nothing.
+--   typing-refused, typing-made   of a text that is refused; of one whose job was written
+use Prim.Native.Nat.{ℕ, _≤_}
+use mathlib.Core.Path.{_≡_, refl, sym, _∙_, ap}
+use mathlib.Core.Logic.{_↔_, _⊎_, inl, inr, ⊎-elim}
+use mathlib.Core.Bool.{Bool, true, false}
+use mathlib.Core.List.{List, [], _∷_, _++_}
+use native.Mathlib.Omega.{arith}
+use lib.ListN.{length, drop}
+use Rattle.base.proofs.Choose.{pick-both}
+use Rattle.job.specs.Rows.{_⨾_, row}
+use Rattle.job.specs.Checks.{checkJob}
+use Rattle.job.specs.Encoding.{encode, Valid}
+use Rattle.job.specs.Format.{jobOf}
+use Rattle.job.specs.declared.Check.{Check}
+use Rattle.job.specs.declared.Check.the-variants.{Accepted, Refused}
+use Rattle.job.proofs.Encoding.{reading}
+use Rattle.job.proofs.Rows.{both}
+use Rattle.semantics.specs.Model.{program, programOf}
+use Rattle.writing.specs.Written.{Put}
+use Rattle.lines.specs.Lines.{Lines, textOf, typed, jobFrom}
+use Rattle.lines.specs.Fitting.{checkFit}
+use Rattle.lines.specs.Numbering.{cap, Item, itemsOf, countedNumber, faultyNumber, judged, noTally, countedAll}
+use Rattle.lines.specs.Checks.{checkNumbers, checkRoom, checkLines}
+use Rattle.lines.specs.Room.{roomRow, checkCounts, checkText, Readable}
+use Rattle.lines.specs.Laws.{Unfit, Made, Typing}
+use Rattle.lines.specs.declared.Tally.{Tally}
+use Rattle.lines.specs.declared.Counted.{Counted}
+use Rattle.lines.proofs.Saying.{complete, unique}
+use Rattle.lines.proofs.Tails.{sound}
+use Rattle.lines.proofs.Unfitting.{unfit-exactly, fit-or-unfit}
+use Rattle.lines.proofs.Checking.{text-check}
+use Rattle.lines.proofs.Sorted.{sorting, sorted-length, below-in}
+use Rattle.lines.proofs.Validity.{LinesFit, lines-valid, lines-below, job-taken, typed-size}
+use Rattle.lines.proofs.Joined.{put-front, put-within}
+use Rattle.lines.proofs.Whole.{fit, sized}
+use Rattle.lines.proofs.Models.{sorted-program}
+
+-- row 14 is the first of the rows
+abbrev Not14 : Check → Type 0
+Not14 Accepted = Unit {0}
+Not14 (Refused n p) = n ≡ 14 → ⊥
+
+then-not : (x y : Check) → Not14 x → Not14 y → Not14 (x ⨾ y)
+unfolding _⨾_
+then-not Accepted y a b = b
+then-not (Refused n p) y a b = a
+
+judged-not : (xs : List Item) (t : Tally) → Not14 (judged t xs .check)
+unfolding judged
+judged-not [] t = tt
+judged-not (x ∷ xs) t =
+    pick-both (λ (y : Counted). Not14 (y .check)) (faultyNumber (countedNumber t (x .slot) (x .value)) (x .slot) (x .value)) _ _ (λ e n. omega arith)
+    (λ e. judged-not xs (countedNumber t (x .slot) (x .value)))
+
+row-not : (b : Bool) (p : ℕ) → Not14 (row b 16 p)
+unfolding row
+row-not true p = λ n. omega arith
+row-not false p = tt
+
+room-not : (room : ℕ) (t : Tally) → Not14 (roomRow room t)
+unfolding roomRow
+room-not room t = then-not _ Accepted (row-not _ _) tt
+
+later-not : (s : List ℕ) (room : ℕ) → Not14 (checkCounts s room)
+unfolding checkCounts countedAll
+later-not s room = then-not _ _ (judged-not (itemsOf cap s) noTally) (room-not room _)
+
+first-14 : (x y : Check) (k : ℕ) → Not14 y → x ⨾ y ≡ Refused 14 k → x ≡ Refused 14 k
+unfolding _⨾_
+first-14 Accepted y k b e = absurd (not-it y k b e)
+  where
+    not-it : (c : Check) (j : ℕ) → Not14 c → c ≡ Refused 14 j → ⊥
+    not-it Accepted j n q = let z : _≡_ {A = ℕ} 0 1 = cc in omega arith
+    not-it (Refused n p) j f q = let z : n ≡ 14 = cc in f z
+first-14 (Refused n p) y k b e = e
+
+stop-14 : (x y : Check) (k : ℕ) → x ≡ Refused 14 k → x ⨾ y ≡ Refused 14 k
+unfolding _⨾_
+stop-14 x y k e = rw e
+
+module _ (s : List ℕ) (room : ℕ) (r : Check) (a : r ≡ checkText s room) where
+  unfit-14 : (k : ℕ) → (r ≡ Refused 14 k) ↔ Unfit s k
+  unfolding checkText
+  unfit-14 k =
+      let u = unfit-exactly s k in
+      let y = checkCounts s room in
+      (λ e. u .0 (first-14 (checkFit s) y k (later-not s room) (sym a ∙ e)), λ q. a ∙ stop-14 (checkFit s) y k (u .1 q))
+
+  read-it : ((l : Lines) × (s ≡ textOf l)) ⊎ ((k : ℕ) × Unfit s k)
+  read-it = ⊎-elim (λ f. inl f) (λ u. inr (u .0, u .2)) (fit-or-unfit s)
+
+  answer-of : (l : Lines) → s ≡ textOf l → r ≡ checkLines l room
+  answer-of l e = a ∙ ap (λ (x : List ℕ). checkText x room) e ∙ text-check l room
+
+  -- a text that every row accepts
+  pub readable : (t : Tally) → r ≡ Accepted → t ≡ countedAll s .tally → Readable s t room
+  unfolding checkText
+  readable t ok c =
+      let l = sound s (both (checkFit s) _ (sym ok ∙ a) .0) in
+      record { lines = l .0; says = l .1; accepted = sym ok ∙ answer-of (l .0) (l .1); counts = c }
+
+two : {A : Type 0} {r : Check} {n p : ℕ} → r ≡ Refused n p → r ≡ Accepted → A
+two e f = let z : _≡_ {A = ℕ} 0 1 = cc in absurd (omega arith)
+
+pub typing-refused : (s out : List ℕ) (r : Check) (n p : ℕ) → r ≡ checkText s (length out) → r ≡ Refused n p → Typing s out out r 0
+typing-refused s out r n p a e =
+    record {
+      read = read-it s (length out) r a;
+      one = unique;
+      unfit = unfit-14 s (length out) r a;
+      made =
+          λ l q.
+          record {
+            answer = answer-of s (length out) r a l q;
+            bytes = λ f. two e f;
+            size = λ f. two e f;
+            accepted = λ f. two e f;
+            holds = λ f. two e f;
+            valid = λ f. two e f;
+            count = λ f. two e f;
+            model = λ f. two e f;
+          };
+      kept = λ m q f. refl;
+      none = λ m q f. refl;
+      sorting = sorting;
+    }
+
+module _ (l : Lines) (room : ℕ) (a : Accepted ≡ checkLines l room) where
+  taken : Accepted ≡ checkJob (encode (jobFrom l))
+  unfolding checkLines
+  taken = job-taken l (both (checkNumbers l) (checkRoom l room) a .0)
+
+  valid-job : Valid (jobFrom l)
+  valid-job = lines-valid l (fit l room a)
+
+  counted : length (jobFrom l .rules) ≡ length (l .rules)
+  counted = sorted-length (l .claims) (typed l) (lines-below l (fit l room a)) ∙ typed-size l
+
+  same-program : programOf (jobFrom l) ≡ program (l .claims) (typed l)
+  same-program = sorted-program (l .claims) (typed l) (below-in (l .claims) (typed l) (lines-below l (fit l room a)))
+
+module _ (s out out′ : List ℕ) (r : Check) (n : ℕ) (a : r ≡ checkText s (length out)) (ok : r ≡ Accepted) (puts : (l : Lines) → s ≡ textOf l → Put out 0 (encode (jobFrom l)) out′ n) where
+  pass : (l : Lines) → s ≡ textOf l → Accepted ≡ checkLines l (length out)
+  pass l e = sym ok ∙ answer-of s (length out) r a l e
+
+  made-of : (l : Lines) → s ≡ textOf l → Made l out out′ r n
+  made-of l e =
+      record {
+        answer = answer-of s (length out) r a l e;
+        bytes = λ f. put-front out (encode (jobFrom l)) out′ n (puts l e);
+        size = λ f. omega (arith, puts l e .next);
+        accepted = λ f. taken l (length out) (pass l e);
+        holds = λ f. reading .meaning (jobFrom l) (valid-job l (length out) (pass l e));
+        valid = λ f. valid-job l (length out) (pass l e);
+        count = λ f. counted l (length out) (pass l e);
+        model = λ f. same-program l (length out) (pass l e);
+      }
+
+  pub typing-made : Typing s out out′ r n
+  typing-made =
+      record {
+        read = read-it s (length out) r a;
+        one = unique;
+        unfit = unfit-14 s (length out) r a;
+        made = made-of;
+        kept = λ m q f. two f ok;
+        none = λ m q f. two f ok;
+        sorting = sorting;
+      }
+
+  pub length-most : Readable s (countedAll s .tally) (length out) → n ≤ length out′
+  length-most q = put-within out (encode (jobFrom (q .lines))) out′ n (sized (q .lines) (length out) (q .accepted)) (puts (q .lines) (q .says))

@@ -1,0 +1,70 @@
+-- `lines::write::put_bodies` meets its contract: each turn writes one rule. Assumes nothing.
+use Prim.Native.Nat.{_+_, _-_, _<_, _≤_}
+use mathlib.Core.Path.{_≡_, refl, sym}
+use native.Mathlib.Omega.{arith}
+use lib.ListN.{length}
+use Rattle.lines.specs.Placing.{Within, bodyAt}
+use Rattle.lines.proofs.Fields.{Parted, parted-start, parted-room, parted-size, parted-more, parted-end}
+use borrow.Author.Needs.{needs}
+use Rattle.lines.proofs.write.put_bodies.Statement.{statement}
+use Rattle.lines.proofs.write.put_bodies.Tie as tie
+
+abbrev Inv-loop : tie.InvT-loop
+Inv-loop out₀ at notes order to₀ i₀ i-end out to i = (i-end ≡ length order) × Within order (length notes) × Parted (bodyAt notes) out₀ at order out to i
+
+abbrev μ-loop : tie.MeasureT-loop
+μ-loop out₀ at notes order to₀ i₀ i-end out to i = length order - i
+
+loop-holds : tie.Need-loop-holds Inv-loop μ-loop
+loop-holds c = (refl, c .before .before .before .pre .0, parted-start _ _ _ _ (c .before .before .before .pre .1))
+
+mul-wide16 : tie.Need-mul-wide16 Inv-loop μ-loop
+mul-wide16 c =
+    let l = c .before .before in
+    let h : l .loop .i < length (l .before .before .before .before .args .order .now) = omega arith in
+    search needs
+
+shared-slice-read-wide16 : tie.Need-shared-slice-read-wide16 Inv-loop μ-loop
+shared-slice-read-wide16 c = omega arith
+
+wide16-requires : tie.Need-wide16-requires Inv-loop μ-loop
+wide16-requires c κs = tt
+
+put-body-requires : tie.Need-put-body-requires Inv-loop μ-loop
+put-body-requires c κs =
+    let l = c .before .before .before .before .loop in
+    (omega (arith, l .inv .1 .below (l .i) (omega arith)), parted-room (l .inv .2) _ (c .wide16 .ensures) (omega arith))
+
+add-i : tie.Need-add-i Inv-loop μ-loop
+add-i c = omega arith
+
+loop-less : tie.Need-loop-less Inv-loop μ-loop
+loop-less c = omega arith
+
+loop-again : tie.Need-loop-again Inv-loop μ-loop
+loop-again c =
+    let l = c .before .before .before .before .before .before .before .loop in
+    (refl, l .inv .1, parted-more (l .inv .2) _ _ _ (c .before .before .before .wide16 .ensures) (omega arith) (c .before .before .put-body .ensures))
+
+same-length : tie.Need-same-length Inv-loop μ-loop
+same-length c = parted-size (c .before .loop .inv .2)
+
+returns : tie.Need-returns Inv-loop μ-loop
+returns c = parted-end (c .before .loop .inv .2) (omega arith)
+
+pub put-bodies-spec : {M : Type 1} → statement M
+put-bodies-spec =
+    tie.close
+    (tie.spec
+    Inv-loop
+    μ-loop
+    loop-holds
+    mul-wide16
+    shared-slice-read-wide16
+    wide16-requires
+    put-body-requires
+    add-i
+    loop-less
+    loop-again
+    same-length
+    returns)

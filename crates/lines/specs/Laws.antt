@@ -1,0 +1,60 @@
+-- What is promised of a text and its job (02, order 1). Lines has what a text says, Checks rows 15 and 16.
+--   Unfit s k               line k is the first line of s that doesn't fit: the lines before it are a text, and no text takes it in
+--   Sorting                 what `sorted` does: each head's rules, in their order; heads never fall
+--   Made l out out′ r n     what the call gives of a text that says l: its answer r, the job's length n, the bytes out′ where `out` was lent
+--   Typing s out out′ r n   the whole promise, of every text s
+use Prim.Native.Nat.{ℕ, _+_, _<_}
+use mathlib.Core.List.{List, _++_}
+use mathlib.Core.Path.{_≡_}
+use mathlib.Core.Logic.{_↔_, _⊎_}
+use lib.ListN.{length, drop}
+use Rattle.job.specs.Job.{Rule}
+use Rattle.job.specs.Checks.{checkJob}
+use Rattle.job.specs.Format.{jobOf}
+use Rattle.job.specs.Encoding.{encode, Valid, Rising}
+use Rattle.job.specs.declared.Check.{Check}
+use Rattle.job.specs.declared.Check.the-variants.{Accepted, Refused}
+use Rattle.semantics.specs.Model.{program, programOf}
+use Rattle.lines.specs.Checks.{checkLines}
+use Rattle.lines.specs.Lines.{Lines, textOf, lineCount, typed, jobFrom, headed, sorted}
+
+-- "14 over all lines, one that doesn't fit (line 1 if there are none)"; "Place: the line, from 1"
+pub record Unfit (s : List ℕ) (k : ℕ) : Type 0 where
+  -- the lines before it are the text of some lines; the first line has none before it
+  pub before : (k ≡ 1) ⊎ ((l : Lines) × (rest : List ℕ) × (s ≡ textOf l ++ rest) × (k ≡ lineCount l + 1))
+  -- whatever the text begins with that is a text of lines ends before it
+  pub here : (l : Lines) (rest : List ℕ) → s ≡ textOf l ++ rest → lineCount l < k
+  -- and it is not the end of the text
+  pub more : (l : Lines) → s ≡ textOf l → ⊥
+
+-- "Rules come out sorted by head, one head's in line order"
+pub record Sorting : Type 0 where
+  pub same : (a : ℕ) (rs : List Rule) (h : ℕ) → h < a → headed h (sorted a rs) ≡ headed h rs
+  pub rise : (a : ℕ) (rs : List Rule) → Rising 0 (sorted a rs)
+
+pub record Made (l : Lines) (out out′ : List ℕ) (r : Check) (n : ℕ) : Type 0 where
+  -- rows 15 and 16
+  pub answer : r ≡ checkLines l (length out)
+  -- the output begins with the job's bytes; "Bytes past what is written stay."
+  pub bytes : r ≡ Accepted → out′ ≡ encode (jobFrom l) ++ drop (length (encode (jobFrom l))) out
+  pub size : r ≡ Accepted → n ≡ length (encode (jobFrom l))
+  -- "The job is accepted and holds those lines and nothing else."
+  pub accepted : r ≡ Accepted → Accepted ≡ checkJob (encode (jobFrom l))
+  pub holds : r ≡ Accepted → jobOf (encode (jobFrom l)) ≡ jobFrom l
+  pub valid : r ≡ Accepted → Valid (jobFrom l)
+  pub count : r ≡ Accepted → length (jobFrom l .rules) ≡ length (l .rules)
+  -- its model is that of the rules as they are typed
+  pub model : r ≡ Accepted → programOf (jobFrom l) ≡ program (l .claims) (typed l)
+
+pub record Typing (s out out′ : List ℕ) (r : Check) (n : ℕ) : Type 0 where
+  -- a text says some lines, or has a first line that doesn't fit
+  pub read : ((l : Lines) × (s ≡ textOf l)) ⊎ ((k : ℕ) × Unfit s k)
+  -- and no text says two
+  pub one : (l k : Lines) → textOf l ≡ textOf k → l ≡ k
+  -- row 14
+  pub unfit : (k : ℕ) → (r ≡ Refused 14 k) ↔ Unfit s k
+  pub made : (l : Lines) → s ≡ textOf l → Made l out out′ r n
+  -- refused: nothing is written
+  pub kept : (number place : ℕ) → r ≡ Refused number place → out′ ≡ out
+  pub none : (number place : ℕ) → r ≡ Refused number place → n ≡ 0
+  pub sorting : Sorting

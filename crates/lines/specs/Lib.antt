@@ -1,0 +1,10 @@
+pub mod Lines
+pub mod Checks
+pub mod Laws
+pub mod Grammar
+pub mod Fitting
+pub mod Numbering
+pub mod Room
+pub mod Noting
+pub mod Placing
+pub mod Header

@@ -1,0 +1,51 @@
+// Standard input, read to its end. io's `read_full` doesn't tell an end from a read that failed.
+ghost use mathlib.Core.Path.{_≡_};
+ghost use Prim.Native.Nat.{_≤_};
+ghost use lib.ListN.{length};
+ghost use Rattle.io.specs.Counts.{Counts};
+use libc::STDIN_FILENO;
+
+// How many bytes were read, and whether no read failed.
+pub struct Input {
+    pub length: usize,
+    pub sound: bool,
+}
+
+// The room for a text: the 1,048,576 bytes that it may have, and one more, so that a longer one shows.
+pub fn room() -> [u8; 1048577]
+    ensures { λ r. ⌜ 1048577 ≡ length r ⌝ }
+{
+    [0u8; 1048577]
+}
+
+fn read_once(part: &mut [u8]) -> Input
+    ensures { λ r. ⌜ r .length ≤ length (now (part .exit)) ⌝ }
+{
+    let got = libc::read(STDIN_FILENO, part);
+    Input {
+        length: io::count(got, part),
+        sound: 0 <= got,
+    }
+}
+
+// Reads up to the input's end, or the buffer's, or a read that fails.
+pub fn read_text(buf: &mut [u8]) -> Input
+    ensures { λ r. ⌜ Counts (r .length) (now (buf .exit)) ⌝ }
+{
+    let mut done: usize = 0;
+    while done < buf.len() {
+        let more = read_once(&mut buf[done..]);
+        let count = more.length;
+        if count == 0 {
+            return Input {
+                length: done,
+                sound: more.sound,
+            };
+        }
+        done += count;
+    }
+    Input {
+        length: done,
+        sound: true,
+    }
+}

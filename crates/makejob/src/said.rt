@@ -1,0 +1,47 @@
+// What is said on standard error: words, numbers, and parts of the text.
+ghost use Prim.Native.Nat.{_≤_};
+use libc::STDERR_FILENO;
+
+// The most bytes of a part that are shown.
+const SHOWN: usize = 60;
+
+pub fn say(words: &[u8]) {
+    io::write_all(STDERR_FILENO, words);
+}
+
+pub fn say_number(number: usize) {
+    io::print_decimal(STDERR_FILENO, number as u64);
+}
+
+// `?` for a byte that can't be printed.
+fn printable(b: u8) -> u8 {
+    if b < 32 {
+        return b'?';
+    }
+    if 126 < b {
+        return b'?';
+    }
+    b
+}
+
+fn least(a: usize, b: usize) -> usize
+    ensures { λ r. ⌜ (r ≤ a) × (r ≤ b) ⌝ }
+{
+    if a < b {
+        return a;
+    }
+    b
+}
+
+// The first bytes of a part, and `..` where there are more.
+pub fn say_part(part: &[u8]) {
+    let n = least(part.len(), SHOWN);
+    let mut shown = [0u8; 60];
+    for i in 0..n {
+        shown[i] = printable(part[i]);
+    }
+    say(&shown[..n]);
+    if n < part.len() {
+        say(b"..");
+    }
+}

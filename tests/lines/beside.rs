@@ -1,0 +1,96 @@
+//! One text at a time: the call's answers and bytes beside the oracle's.
+
+use oracle::checks::{Job, Refusal, MAX_JOB_BYTES};
+use oracle::lines::{held, job_of_text, text_of_job};
+use oracle::lines_sorts::{sort_of, Sort};
+use oracle::orders::Orders;
+
+use crate::lent::{Output, Text};
+use crate::library;
+use crate::totals::Totals;
+
+/// The longest output that is lent here.
+pub const MOST_OUTPUT: usize = 100_000;
+
+/// The code for an answer.
+pub fn code_of<T: AsRef<[u8]>>(answer: &Result<T, Refusal>) -> u64 {
+    match answer {
+        Ok(job) => job.as_ref().len() as u64,
+        Err(Refusal { number, place }) => (1 << 63) + (u64::from(*number) << 56) + *place as u64,
+    }
+}
+
+/// A code in words.
+fn said(code: u64) -> String {
+    match code >> 63 {
+        0 => format!("a job of {code} bytes"),
+        _ => format!("refused {} {}", code >> 56 & 0x7f, code & ((1 << 56) - 1)),
+    }
+}
+
+/// Output lengths worth a call.
+fn interesting_lengths(job: &Result<Vec<u8>, Refusal>) -> Vec<usize> {
+    let mut lengths = vec![0, 1, 35, 36, 37, MAX_JOB_BYTES, MOST_OUTPUT];
+    if let Ok(job) = job {
+        lengths.extend([job.len() / 2, job.len() - 1, job.len(), job.len() + 1, job.len() + 200]);
+    }
+    lengths.sort_unstable();
+    lengths.dedup();
+    lengths
+}
+
+/// One call into so many bytes; what differs from this answer.
+pub fn fault_of_call<T: AsRef<[u8]>>(
+    text: &Text,
+    output: &mut Output,
+    length: usize,
+    answer: &Result<T, Refusal>,
+) -> Option<String> {
+    let code = library::job_of_lines(text.bytes(), output.lend(length));
+    let written = answer.as_ref().map_or(&[][..], |job| job.as_ref());
+    let right = code_of(answer);
+    let fault = if code != right {
+        Some(format!("{}, expected {}", said(code), said(right)))
+    } else if text.altered() {
+        Some("the text was altered".to_string())
+    } else {
+        output.difference(length, written)
+    };
+    fault.map(|fault| format!("into {length} bytes: {fault}"))
+}
+
+/// A job that came out is accepted, and its own lines give it again.
+fn fault_of_way_back(job: &[u8], output: &mut Output) -> Option<String> {
+    let read = match Job::check(job, Orders::in_force()) {
+        Ok(read) => read,
+        Err(refusal) => return Some(format!("the job is refused: {refusal:?}")),
+    };
+    match text_of_job(&read) {
+        None => Some("the job has a missing record".to_string()),
+        Some(text) => fault_of_call(&Text::new(&text), output, job.len(), &Ok(job))
+            .map(|fault| format!("the lines of its job, {fault}")),
+    }
+}
+
+/// Compares the call on a text with outputs of every interesting length, up to the
+/// first fault.
+pub fn compare(totals: &mut Totals, output: &mut Output, name: &str, text: &[u8]) {
+    totals.count_text(text);
+    let (job, lent) = (job_of_text(text), Text::new(text));
+    let sort = sort_of(text, &job);
+    for length in interesting_lengths(&job) {
+        let answer = job.as_deref().map_err(|&refusal| refusal).and_then(|job| held(job, length));
+        let short = answer.is_err() && job.is_ok();
+        totals.count_call(if short { Sort::Short } else { sort });
+        let mut fault = fault_of_call(&lent, output, length, &answer);
+        if fault.is_none() && answer.is_ok_and(|job| job.len() == length) {
+            let came_out = output.bytes(length).to_vec();
+            totals.read_back += 1;
+            fault = fault_of_way_back(&came_out, output);
+        }
+        if let Some(fault) = fault {
+            totals.differ(name, text, &fault);
+            return;
+        }
+    }
+}
