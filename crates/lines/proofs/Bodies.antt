@@ -10,7 +10,7 @@ use native.Mathlib.Omega.{arith}
 use lib.ListN.{length, getD, take, drop, drop-of-length-le}
 use lib.Seq.{drop-cons}
 use Rattle.base.specs.Compare.{under}
-use Rattle.base.proofs.Choose.{pick-true, pick-false, pick-both}
+use Rattle.base.proofs.Choose.{pick-true, pick-false}
 use Rattle.base.proofs.Compare.{under-yes, under-no}
 use Rattle.lines.specs.Noting.{headMark}
 use Rattle.lines.specs.Placing.{untilHead, BodyLength, bodyAt, recordAt}

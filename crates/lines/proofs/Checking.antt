@@ -1,9 +1,7 @@
 -- Rows 14, 15 and 16 of a text are those of the lines that it says. Assumes nothing.
 use Prim.Native.Nat.{ℕ}
-use mathlib.Core.List.{List}
-use mathlib.Core.Path.{_≡_, refl, sym, _∙_, ap}
-use lib.ListN.{length}
-use Rattle.job.specs.Rows.{_⨾_, row}
+use mathlib.Core.Path.{_≡_, refl, _∙_, ap}
+use Rattle.job.specs.Rows.{_⨾_}
 use Rattle.job.proofs.Rows.{both}
 use Rattle.job.specs.declared.Check.{Check}
 use Rattle.job.specs.declared.Check.the-variants.{Accepted, Refused}

@@ -2,8 +2,8 @@
 --   Parted f ..     the parts of the first i elements of xs are written
 --   parted-start, -room, -size, -more, -end   none yet; room for one more; the output's length; one more; all
 --   flat-length    how long parts of equal length are together
-use Prim.Native.Nat.{ℕ, suc, _+_, _*_, _<_, _≤_}
-use mathlib.Core.Path.{_≡_, refl, sym, _∙_, ap}
+use Prim.Native.Nat.{ℕ, _+_, _*_, _<_, _≤_}
+use mathlib.Core.Path.{_≡_, sym, _∙_, ap}
 use mathlib.Core.List.{List, [], _∷_, _++_, flatMap}
 use native.Mathlib.Numerals.{add-one}
 use native.Mathlib.Omega.{arith}

@@ -1,7 +1,7 @@
 -- The header of a job, from the counts of its lines. Assumes nothing.
 use Prim.Native.Nat.{ℕ}
 use mathlib.Core.Path.{_≡_, _∙_, ap}
-use mathlib.Core.List.{List, _++_}
+use mathlib.Core.List.{_++_}
 use Rattle.job.specs.Format.{literalByte, questionByte}
 use Rattle.job.specs.Encoding.{wordBytes, headerBytes}
 use Rattle.lines.specs.Lines.{Lines, typed, jobFrom}

@@ -4,6 +4,7 @@ pub mod Cases
 pub mod Saying
 pub mod Sorted
 pub mod Validity
+pub mod Exactly
 pub mod Numbered
 pub mod Checking
 pub mod Heading
@@ -26,4 +27,5 @@ pub mod Placed
 pub mod Joined
 pub mod Notes
 pub mod Models
+pub mod Examples
 pub mod Typing

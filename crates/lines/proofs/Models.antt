@@ -15,7 +15,7 @@ use Rattle.job.specs.Job.{Rule}
 use Rattle.job.specs.Encoding.{_∈_}
 use Rattle.semantics.specs.Model.{Body, bodyOf, bodiesOf, program}
 use Rattle.lines.specs.Lines.{headed, sorted}
-use Rattle.lines.proofs.Sorted.{Below, sorted-same, sorted-in}
+use Rattle.lines.proofs.Sorted.{sorted-same, sorted-in}
 
 -- the bodies of a head are those of its rules
 bodies-step : (b : Bool) (r : Rule) (bs : List Body) (rs : List Rule) → bs ≡ map bodyOf rs → cond b (bodyOf r ∷ bs) bs ≡ map bodyOf (pick b (r ∷ rs) rs)

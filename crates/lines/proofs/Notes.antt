@@ -2,10 +2,9 @@
 --   notesFrom sc bs   the notes of the bytes left; notes-from   those of the numbers in them
 --   Noting ..         the notes of the first i bytes are written
 --   noting-start, -kept, -room, -more, -size, -end   none yet; the next number is kept; it has room; it is noted; the length; all
-use Prim.Native.Nat.{ℕ, suc, _+_, _*_, _-_, _<_, _≤_}
-use mathlib.Core.Path.{_≡_, refl, sym, _∙_, ap}
-use mathlib.Core.Bool.{Bool}
-use mathlib.Core.List.{List, [], _∷_, _++_, flatMap, append-nil}
+use Prim.Native.Nat.{ℕ, _+_, _<_, _≤_}
+use mathlib.Core.Path.{_≡_, refl, _∙_, ap}
+use mathlib.Core.List.{List, [], _∷_, _++_, flatMap}
 use native.Mathlib.Numerals.{add-one}
 use native.Mathlib.Omega.{arith}
 use lib.ListN.{length, getD, drop, drop-of-length-le, length-append}
@@ -17,7 +16,7 @@ use Rattle.writing.specs.Written.{Put}
 use Rattle.writing.proofs.Onward.{Onward, onward-start, onward-size, onward-room, onward-more, onward-end}
 use Rattle.lines.specs.Grammar.{lineStart, isDigit}
 use Rattle.lines.specs.Numbering.{Scan, cap, digitBy, begin, advance, unlessDigit, eventIn, eventAt, Item, itemOf, items}
-use Rattle.lines.specs.Noting.{noteIn, noteOf, notes, notesOf, Kept}
+use Rattle.lines.specs.Noting.{noteIn, notes, notesOf, Kept}
 use Rattle.lines.specs.declared.Slot.{Slot}
 use Rattle.lines.specs.declared.State.{State}
 use Rattle.lines.specs.declared.State.the-variants.{Bad, FirstLine, AnyLine, AskLine, Letter, First, Zero, More, BodyNext}

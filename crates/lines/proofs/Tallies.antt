@@ -1,8 +1,8 @@
 -- Row 15 along the bytes of a text, and what a tally without a fault has. Assumes nothing.
-use Prim.Native.Nat.{ℕ, suc, _+_, _*_, _-_, _<_, _≤_}
+use Prim.Native.Nat.{ℕ, suc, _+_, _<_, _≤_}
 use mathlib.Core.List.{List, [], _∷_, _++_}
 use mathlib.Core.Path.{_≡_, refl, sym, _∙_}
-use mathlib.Core.Bool.{Bool, true, false, true≢false}
+use mathlib.Core.Bool.{true, false}
 use Rattle.base.specs.Choose.{pick}
 use Rattle.base.specs.Compare.{under, over, notBelow}
 use native.Mathlib.Numerals.{add-one}
@@ -11,9 +11,9 @@ use lib.ListN.{length, getD, drop, drop-of-length-le}
 use lib.Seq.{drop-cons}
 use Rattle.base.proofs.Bools.{neither}
 use Rattle.base.proofs.Choose.{pick-true, pick-false, pick-both}
-use Rattle.base.proofs.Compare.{over-le, under-le, under-lt}
+use Rattle.base.proofs.Compare.{over-le}
 use Rattle.job.specs.declared.Check.the-variants.{Accepted, Refused}
-use Rattle.lines.specs.Grammar.{step, lineStart, isDigit}
+use Rattle.lines.specs.Grammar.{step, lineStart}
 use Rattle.lines.specs.Numbering.{Scan, cap, digitBy, advance, eventAt, Item, itemOf, items, itemsOf, countedWith, countedNumber, faultyWith, faultyNumber, judged, countedAll, noTally, Small}
 use Rattle.lines.specs.declared.State.{State}
 use Rattle.lines.proofs.Leads.{at as scanned}

@@ -4,36 +4,37 @@ use Prim.Native.Nat.{ℕ, _≤_}
 use mathlib.Core.Path.{_≡_, refl, sym, _∙_, ap}
 use mathlib.Core.Logic.{_↔_, _⊎_, inl, inr, ⊎-elim}
 use mathlib.Core.Bool.{Bool, true, false}
-use mathlib.Core.List.{List, [], _∷_, _++_}
+use mathlib.Core.List.{List, [], _∷_}
 use native.Mathlib.Omega.{arith}
-use lib.ListN.{length, drop}
+use lib.ListN.{length}
 use Rattle.base.proofs.Choose.{pick-both}
 use Rattle.job.specs.Rows.{_⨾_, row}
 use Rattle.job.specs.Checks.{checkJob}
 use Rattle.job.specs.Encoding.{encode, Valid}
-use Rattle.job.specs.Format.{jobOf}
 use Rattle.job.specs.declared.Check.{Check}
 use Rattle.job.specs.declared.Check.the-variants.{Accepted, Refused}
 use Rattle.job.proofs.Encoding.{reading}
 use Rattle.job.proofs.Rows.{both}
 use Rattle.semantics.specs.Model.{program, programOf}
 use Rattle.writing.specs.Written.{Put}
-use Rattle.lines.specs.Lines.{Lines, textOf, typed, jobFrom}
+use Rattle.lines.specs.Lines.{Lines, textOf, typed, jobFrom, jobSize}
 use Rattle.lines.specs.Fitting.{checkFit}
 use Rattle.lines.specs.Numbering.{cap, Item, itemsOf, countedNumber, faultyNumber, judged, noTally, countedAll}
 use Rattle.lines.specs.Checks.{checkNumbers, checkRoom, checkLines}
 use Rattle.lines.specs.Room.{roomRow, checkCounts, checkText, Readable}
-use Rattle.lines.specs.Laws.{Unfit, Made, Typing}
+use Rattle.lines.specs.Laws.{Unfit, InLimits, Made, Typing}
 use Rattle.lines.specs.declared.Tally.{Tally}
 use Rattle.lines.specs.declared.Counted.{Counted}
-use Rattle.lines.proofs.Saying.{complete, unique}
+use Rattle.lines.proofs.Saying.{unique}
 use Rattle.lines.proofs.Tails.{sound}
 use Rattle.lines.proofs.Unfitting.{unfit-exactly, fit-or-unfit}
 use Rattle.lines.proofs.Checking.{text-check}
 use Rattle.lines.proofs.Sorted.{sorting, sorted-length, below-in}
-use Rattle.lines.proofs.Validity.{LinesFit, lines-valid, lines-below, job-taken, typed-size}
+use Rattle.lines.proofs.Validity.{lines-valid, lines-below, job-taken, typed-size}
+use Rattle.lines.proofs.Exactly.{lines-within}
 use Rattle.lines.proofs.Joined.{put-front, put-within}
 use Rattle.lines.proofs.Whole.{fit, sized}
+use Rattle.lines.proofs.Examples.{worked}
 use Rattle.lines.proofs.Models.{sorted-program}
 
 -- row 14 is the first of the rows
@@ -93,6 +94,11 @@ module _ (s : List ℕ) (room : ℕ) (r : Check) (a : r ≡ checkText s room) wh
   answer-of : (l : Lines) → s ≡ textOf l → r ≡ checkLines l room
   answer-of l e = a ∙ ap (λ (x : List ℕ). checkText x room) e ∙ text-check l room
 
+  exactly-of : (l : Lines) → s ≡ textOf l → (r ≡ Accepted) ↔ (InLimits l × (jobSize l ≤ room))
+  exactly-of l e =
+      let w = lines-within l room in
+      (λ ok. w .0 (sym ok ∙ answer-of l e), λ q. answer-of l e ∙ sym (w .1 q))
+
   -- a text that every row accepts
   pub readable : (t : Tally) → r ≡ Accepted → t ≡ countedAll s .tally → Readable s t room
   unfolding checkText
@@ -113,6 +119,7 @@ typing-refused s out r n p a e =
           λ l q.
           record {
             answer = answer-of s (length out) r a l q;
+            exactly = exactly-of s (length out) r a l q;
             bytes = λ f. two e f;
             size = λ f. two e f;
             accepted = λ f. two e f;
@@ -124,6 +131,7 @@ typing-refused s out r n p a e =
       kept = λ m q f. refl;
       none = λ m q f. refl;
       sorting = sorting;
+      worked = worked;
     }
 
 module _ (l : Lines) (room : ℕ) (a : Accepted ≡ checkLines l room) where
@@ -148,6 +156,7 @@ module _ (s out out′ : List ℕ) (r : Check) (n : ℕ) (a : r ≡ checkText s 
   made-of l e =
       record {
         answer = answer-of s (length out) r a l e;
+        exactly = exactly-of s (length out) r a l e;
         bytes = λ f. put-front out (encode (jobFrom l)) out′ n (puts l e);
         size = λ f. omega (arith, puts l e .next);
         accepted = λ f. taken l (length out) (pass l e);
@@ -167,6 +176,7 @@ module _ (s out out′ : List ℕ) (r : Check) (n : ℕ) (a : r ≡ checkText s 
         kept = λ m q f. two f ok;
         none = λ m q f. two f ok;
         sorting = sorting;
+        worked = worked;
       }
 
   pub length-most : Readable s (countedAll s .tally) (length out) → n ≤ length out′

@@ -1,6 +1,8 @@
 -- The job of lines that row 15 accepts is valid, and the check of a job takes it. Assumes nothing.
 --   RuleFits l i, AskFits l q   what an accepted rule line has, and a question line
 --   LinesFit l                  what accepted lines have; lines-fit
+--   rules-most, asks-most       their counts are within the limits
+--   rule-of, ask-of             what each rule and each question among them has; literal-below   and each literal
 --   lines-below, lines-valid    their heads are below A; their job is valid
 --   job-valid, job-taken        the same from the answer of row 15; rows 1 to 8 accept the job's bytes
 use Prim.Native.Nat.{ℕ, zero, suc, _+_, _<_, _≤_}
@@ -96,7 +98,7 @@ below-of : (a : ℕ) (d : Rule) (rs : List Rule) → ((i : ℕ) → i < length r
 below-of a d [] h = tt
 below-of a d (r ∷ rs) h = (h 0 (omega arith), below-of a d rs (λ i k. h (suc i) (omega arith)))
 
-literal-below : (a : ℕ) (ms : List Literal) → someNotBelow a ms ≡ false → (m : Literal) → m ∈ ms → claimOf m < a
+pub literal-below : (a : ℕ) (ms : List Literal) → someNotBelow a ms ≡ false → (m : Literal) → m ∈ ms → claimOf m < a
 unfolding someNotBelow
 literal-below a [] e m i = absurd (List·Memᴰ·not-nil i)
 literal-below a (x ∷ xs) e m i =
@@ -112,7 +114,7 @@ typed-present [] r m e = absurd (List·Memᴰ·not-nil m)
 typed-present (x ∷ xs) r m e =
     ⊎-elim (λ q. absurd (true≢false (sym e ∙ ap (λ (y : Rule). y .missing) q))) (λ t. typed-present xs r t e) (List·Memᴰ·cases-cons m)
 
-rules-most : (l : Lines) (n : ℕ) → length (typed l) ≡ n → ((i : ℕ) → i < n → RuleFits l i) → (n ≤ mostRules) × (bodyCount (typed l) ≤ mostLiterals)
+pub rules-most : (l : Lines) (n : ℕ) → length (typed l) ≡ n → ((i : ℕ) → i < n → RuleFits l i) → (n ≤ mostRules) × (bodyCount (typed l) ≤ mostLiterals)
 unfolding bodyCount
 rules-most l zero e h = (omega arith, rw (none-of (typed l) e) (omega arith))
   where
@@ -124,21 +126,21 @@ rules-most l (suc n) e h =
     let q : take (n + 1) (typed l) ≡ typed l = take-all (n + 1) (typed l) (omega arith) in
     (omega arith, rw q at (f .literalsMost))
 
-asks-most : (l : Lines) (n : ℕ) → length (l .questions) ≡ n → ((q : ℕ) → q < n → AskFits l q) → n ≤ mostQuestions
+pub asks-most : (l : Lines) (n : ℕ) → length (l .questions) ≡ n → ((q : ℕ) → q < n → AskFits l q) → n ≤ mostQuestions
 asks-most l zero e h = omega arith
 asks-most l (suc n) e h = let f = h n (omega arith) in omega arith
 
 module _ (l : Lines) (f : LinesFit l) where
-  fits-at : (i : ℕ) → i < length (typed l) → RuleFits l i
+  pub fits-at : (i : ℕ) → i < length (typed l) → RuleFits l i
   fits-at i k = f .rule i (omega (arith, typed-size l))
 
-  rule-of : (r : Rule) → r ∈ typed l → (r .head < l .claims) × (someNotBelow (l .claims) (r .body) ≡ false)
+  pub rule-of : (r : Rule) → r ∈ typed l → (r .head < l .claims) × (someNotBelow (l .claims) (r .body) ≡ false)
   rule-of r m =
       let s = mem-stands (0 if []) (typed l) r m in
       let g = fits-at (s .at) (s .low) in
       (rw (s .here) at (g .head), rw (s .here) at (g .literals))
 
-  ask-of : (q : Question) → q ∈ l .questions → (q .worker < l .workers) × (q .claim < l .claims)
+  pub ask-of : (q : Question) → q ∈ l .questions → (q .worker < l .workers) × (q .claim < l .claims)
   ask-of q m =
       let s = mem-stands (record { worker = 0; claim = 0 }) (l .questions) q m in
       let g = f .ask (s .at) (s .low) in

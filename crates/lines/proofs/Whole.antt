@@ -35,7 +35,7 @@ use Rattle.lines.proofs.Validity.{LinesFit, lines-fit, lines-below, lin
 use Rattle.lines.proofs.Sorted.{sorted-length, sorted-bodies}
 use Rattle.lines.proofs.Heading.{header-lines}
 use Rattle.lines.proofs.Noted.{notes-said}
-use Rattle.lines.proofs.Spread.{Small, fields, AllSmall}
+use Rattle.lines.proofs.Spread.{Small, AllSmall}
 use Rattle.lines.proofs.Placed.{RulesBelow, records-said, bodies-said, placed-count, notes-heads}
 
 -- literals and heads of accepted lines, as notes

@@ -1,22 +1,26 @@
 -- What is promised of a text and its job (02, order 1). Lines has what a text says, Checks rows 15 and 16.
 --   Unfit s k               line k is the first line of s that doesn't fit: the lines before it are a text, and no text takes it in
+--   InLimits l              lines l are within the limits, in row 15's words
 --   Sorting                 what `sorted` does: each head's rules, in their order; heads never fall
 --   Made l out out′ r n     what the call gives of a text that says l: its answer r, the job's length n, the bytes out′ where `out` was lent
 --   Typing s out out′ r n   the whole promise, of every text s
-use Prim.Native.Nat.{ℕ, _+_, _<_}
+use Prim.Native.Nat.{ℕ, _+_, _<_, _≤_}
 use mathlib.Core.List.{List, _++_}
 use mathlib.Core.Path.{_≡_}
 use mathlib.Core.Logic.{_↔_, _⊎_}
 use lib.ListN.{length, drop}
-use Rattle.job.specs.Job.{Rule}
+use Rattle.job.specs.Job.{claimOf, Rule, bodyCount, mostClaims, mostRules, mostLiterals, mostWorkers, mostQuestions}
 use Rattle.job.specs.Checks.{checkJob}
 use Rattle.job.specs.Format.{jobOf}
-use Rattle.job.specs.Encoding.{encode, Valid, Rising}
+use Rattle.job.specs.Encoding.{encode, Valid, Rising, _∈_}
+use Rattle.job.specs.declared.Literal.{Literal}
+use Rattle.job.specs.declared.Question.{Question}
 use Rattle.job.specs.declared.Check.{Check}
 use Rattle.job.specs.declared.Check.the-variants.{Accepted, Refused}
 use Rattle.semantics.specs.Model.{program, programOf}
 use Rattle.lines.specs.Checks.{checkLines}
-use Rattle.lines.specs.Lines.{Lines, textOf, lineCount, typed, jobFrom, headed, sorted}
+use Rattle.lines.specs.Worked.{Worked}
+use Rattle.lines.specs.Lines.{RuleLine, Lines, textOf, lineCount, typed, jobFrom, jobSize, headed, sorted}
 
 -- "14 over all lines, one that doesn't fit (line 1 if there are none)"; "Place: the line, from 1"
 pub record Unfit (s : List ℕ) (k : ℕ) : Type 0 where
@@ -27,6 +31,19 @@ pub record Unfit (s : List ℕ) (k : ℕ) : Type 0 where
   -- and it is not the end of the text
   pub more : (l : Lines) → s ≡ textOf l → ⊥
 
+-- row 15's words, of the lines: "a count past 01's limits, T 0, or a claim or worker not below its count"
+pub record InLimits (l : Lines) : Type 0 where
+  pub claimsMost : l .claims ≤ mostClaims
+  pub workersLeast : 1 ≤ l .workers
+  pub workersMost : l .workers ≤ mostWorkers
+  pub rulesMost : length (l .rules) ≤ mostRules
+  pub literalsMost : bodyCount (typed l) ≤ mostLiterals
+  pub questionsMost : length (l .questions) ≤ mostQuestions
+  pub heads : (r : RuleLine) → r ∈ l .rules → r .head < l .claims
+  pub literals : (r : RuleLine) → r ∈ l .rules → (m : Literal) → m ∈ r .body → claimOf m < l .claims
+  pub askers : (q : Question) → q ∈ l .questions → q .worker < l .workers
+  pub asked : (q : Question) → q ∈ l .questions → q .claim < l .claims
+
 -- "Rules come out sorted by head, one head's in line order"
 pub record Sorting : Type 0 where
   pub same : (a : ℕ) (rs : List Rule) (h : ℕ) → h < a → headed h (sorted a rs) ≡ headed h rs
@@ -35,6 +52,8 @@ pub record Sorting : Type 0 where
 pub record Made (l : Lines) (out out′ : List ℕ) (r : Check) (n : ℕ) : Type 0 where
   -- rows 15 and 16
   pub answer : r ≡ checkLines l (length out)
+  -- accepted exactly where the lines are within the limits and the output has room
+  pub exactly : (r ≡ Accepted) ↔ (InLimits l × (jobSize l ≤ length out))
   -- the output begins with the job's bytes; "Bytes past what is written stay."
   pub bytes : r ≡ Accepted → out′ ≡ encode (jobFrom l) ++ drop (length (encode (jobFrom l))) out
   pub size : r ≡ Accepted → n ≡ length (encode (jobFrom l))
@@ -58,3 +77,5 @@ pub record Typing (s out out′ : List ℕ) (r : Check) (n : ℕ) : Type 0 where
   pub kept : (number place : ℕ) → r ≡ Refused number place → out′ ≡ out
   pub none : (number place : ℕ) → r ≡ Refused number place → n ≡ 0
   pub sorting : Sorting
+  -- a text worked out by hand
+  pub worked : Worked

@@ -1,5 +1,6 @@
 pub mod Lines
 pub mod Checks
+pub mod Worked
 pub mod Laws
 pub mod Grammar
 pub mod Fitting

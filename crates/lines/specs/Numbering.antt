@@ -17,7 +17,6 @@ use mathlib.Core.Bool.{Bool, false, _||_}
 use Rattle.base.specs.Choose.{pick}
 use Rattle.base.specs.Compare.{under, over, notBelow}
 use Rattle.job.specs.Job.{mostClaims, mostRules, mostLiterals, mostWorkers, mostQuestions}
-use Rattle.job.specs.declared.Check.{Check}
 use Rattle.job.specs.declared.Check.the-variants.{Accepted, Refused}
 use Rattle.lines.specs.Grammar.{isDigit, step, lineStart}
 use Rattle.lines.specs.declared.Slot.{Slot}

@@ -12,6 +12,9 @@ use crate::Slot;
 use crate::State;
 use crate::Word;
 
+// Where a number past it is kept: past every limit.
+const KEPT: usize = 65536;
+
 pub fn is_digit(b: u8) -> bool
     ensures { λ r. ⌜ r ≡ isDigit b ⌝ }
 {
@@ -248,11 +251,11 @@ fn add_digit(number: usize, b: u8) -> usize
     ensures { λ r. ⌜ r ≡ cap (10 * number + (b - 48)) ⌝ }
 {
     if 6553 < number {
-        return 65536;
+        return KEPT;
     }
     let more = 10 * number + (b as usize - 48);
     if 65536 < more {
-        return 65536;
+        return KEPT;
     }
     more
 }

@@ -1,18 +1,15 @@
 -- The listing of an accepted job with its schedule behind it. Assumes nothing.
-use Prim.Native.Nat.{ℕ, _+_, _*_, _<_, _≤_}
+use Prim.Native.Nat.{ℕ, _+_, _<_, _≤_}
 use mathlib.Core.List.{List, _++_}
-use mathlib.Core.Path.{_≡_, refl, sym, _∙_, ap}
-use mathlib.Core.Bool.{false}
+use mathlib.Core.Path.{_≡_, refl, _∙_, ap}
 use native.Mathlib.Omega.{arith}
 use lib.ListN.{length, getD, take, drop, length-append, List·getD-append}
 use lib.Seq.{take-at, drop-at}
-use Rattle.base.specs.Compare.{under, over, notBelow}
 use Rattle.base.proofs.Choose.{pick-false}
 use Rattle.base.proofs.Compare.{under-no, over-no, notBelow-no}
 use Rattle.job.specs.Bytes.{half, word}
 use Rattle.job.specs.Job.{Job}
 use Rattle.job.specs.Format.{jobOf, workers}
-use Rattle.job.specs.Rows.{_⨾_, row, scan}
 use Rattle.job.specs.Checks.{checkJob}
 use Rattle.job.specs.Accepted.{Sized}
 use Rattle.job.specs.Encoding.{encode, Valid}
@@ -21,10 +18,10 @@ use Rattle.job.proofs.Rows.{pass, scan-none, join}
 use Rattle.job.proofs.Encoding.{reading, encoded-well-formed}
 use Rattle.turns.specs.Calls.{checkSchedule}
 use Rattle.listing.specs.Listing.{jobEnd, jobPart, schedulePart, mostInput, listingCheck, listingIf, listing, listed, lastTable}
-use Rattle.listing.specs.Told.{Told, Shows}
+use Rattle.listing.specs.Told.{Shows}
 use Rattle.listing.proofs.Shown.{told}
 use Rattle.lines.specs.Lines.{Lines, jobFrom}
-use Rattle.makejob.specs.Lists.{Scheduled, Lists}
+use Rattle.makejob.specs.Lists.{Lists}
 
 module _ (j : Job) (v : Valid j) (ok : Accepted ≡ checkJob (encode j)) (ws : List ℕ) (fits : length (encode j) + length ws ≤ mostInput) (named : (k : ℕ) → k < length ws → getD ws k 0 < j .workers) where
   well : Sized (encode j)

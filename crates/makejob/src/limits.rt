@@ -3,11 +3,7 @@ use crate::digits;
 use crate::line;
 use crate::said;
 use crate::said::say;
-
-const MOST_CLAIMS: usize = 4096;
-
-// The line of rule 6,144, behind the first line and 6,143 rules.
-const LAST_RULE: usize = 6145;
+use job::checks;
 
 fn say_most(count: &[u8]) {
     say(b"with this line there are more than ");
@@ -38,7 +34,7 @@ fn say_not_below(thing: &[u8], number: &[u8], count: usize) {
 // Of line 1: claims over their limit, or else workers.
 fn say_first(line: &[u8]) {
     let claims = digits::next(line, 0);
-    if MOST_CLAIMS < digits::value(line, claims) {
+    if checks::MOST_CLAIMS < digits::value(line, claims) {
         say_most(b"4,096 claims");
         return;
     }
@@ -63,7 +59,8 @@ fn say_question(line: &[u8], claims: usize, workers: usize) {
 
 // The count of rules, or else a claim, or else the count of literals.
 fn say_rule(line: &[u8], number: usize, claims: usize) {
-    if LAST_RULE < number {
+    // rule k stands in line k + 1
+    if checks::MOST_RULES + 1 < number {
         say_most(b"6,144 rules");
         return;
     }

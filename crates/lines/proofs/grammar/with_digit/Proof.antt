@@ -1,7 +1,7 @@
 -- `lines::grammar::with_digit` meets its contract. Assumes nothing.
 use Rattle.lines.specs.Numbering.{digitBy}
 use Rattle.base.proofs.Choose.{pick-true, pick-false}
-use mathlib.Core.Path.{_≡_, refl, sym, _∙_, ap}
+use mathlib.Core.Path.{sym, _∙_}
 use borrow.Author.Needs.{needs}
 use Rattle.lines.proofs.grammar.with_digit.Statement.{statement}
 use Rattle.lines.proofs.grammar.with_digit.Tie as tie

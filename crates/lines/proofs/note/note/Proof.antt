@@ -1,5 +1,4 @@
 -- `lines::note::note` meets its contract. Assumes nothing.
-use native.Mathlib.Omega.{arith}
 use Rattle.writing.proofs.Wrote.{put-none}
 use borrow.Author.Needs.{needs}
 use Rattle.lines.proofs.note.note.Statement.{statement}

@@ -1,9 +1,8 @@
 -- `lines::room::check_counts` meets its contract. Assumes nothing.
-use mathlib.Core.Path.{_≡_, _∙_, ap}
+use mathlib.Core.Path.{_∙_, ap}
 use Rattle.job.proofs.Rows.{go, halt}
 use Rattle.lines.specs.Room.{roomRow, checkCounts}
 use Rattle.lines.specs.declared.Counted.{Counted}
-use Rattle.lines.specs.declared.Tally.{Tally}
 use Rattle.lines.proofs.Tallies.{small-at}
 use borrow.Author.Needs.{needs}
 use Rattle.lines.proofs.room.check_counts.Statement.{statement}

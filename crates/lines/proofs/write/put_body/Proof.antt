@@ -1,5 +1,4 @@
 -- `lines::write::put_body` meets its contract: the notes up to the next head, as fields. Assumes nothing.
-use native.Mathlib.Omega.{arith}
 use Rattle.lines.proofs.Bodies.{body-fits, body-put}
 use borrow.Author.Needs.{needs}
 use Rattle.lines.proofs.write.put_body.Statement.{statement}

@@ -1,10 +1,9 @@
 -- `lines::write::put_job` meets its contract: the notes of the text are the rules' and then the questions'. Assumes nothing.
-use Prim.Native.Nat.{ℕ, _≤_}
-use mathlib.Core.Path.{_≡_, _∙_, ap}
+use Prim.Native.Nat.{ℕ}
+use mathlib.Core.Path.{_∙_, ap}
 use native.Mathlib.Omega.{arith}
 use lib.ListN.{length, length-replicate}
 use Rattle.writing.proofs.Wrote.{put-as}
-use Rattle.lines.specs.Noting.{notesOf}
 use Rattle.lines.proofs.Joined.{order-taken, order-counted, put-within}
 use Rattle.lines.proofs.Whole.{readable-few, readable-parted, readable-bytes}
 use borrow.Author.Needs.{needs}

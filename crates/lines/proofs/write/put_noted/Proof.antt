@@ -1,7 +1,4 @@
 -- `lines::write::put_noted` meets its contract: the front of the order is the places of the rules. Assumes nothing.
-use native.Mathlib.Omega.{arith}
-use mathlib.Core.Path.{sym, ap}
-use lib.ListN.{length}
 use Rattle.lines.proofs.Joined.{order-taken, order-counted}
 use borrow.Author.Needs.{needs}
 use Rattle.lines.proofs.write.put_noted.Statement.{statement}

@@ -1,6 +1,4 @@
 -- `lines::write::put_parts` meets its contract. Assumes nothing.
-use native.Mathlib.Omega.{arith}
-use mathlib.Core.Path.{_≡_}
 use Rattle.lines.proofs.Joined.{rest-all, front-length}
 use borrow.Author.Needs.{needs}
 use Rattle.lines.proofs.write.put_parts.Statement.{statement}

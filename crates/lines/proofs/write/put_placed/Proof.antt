@@ -1,5 +1,4 @@
 -- `lines::write::put_placed` meets its contract: the parts one after the other. Assumes nothing.
-use native.Mathlib.Omega.{arith}
 use Rattle.lines.proofs.Joined.{order-within, header-room, records-room, bodies-room, asks-room, joined}
 use borrow.Author.Needs.{needs}
 use Rattle.lines.proofs.write.put_placed.Statement.{statement}
