@@ -1,7 +1,6 @@
 // Row 15: each number is within its limit or below its count. The contracts cite specs/Numbering.
 ghost use mathlib.Core.Path.{_≡_};
 ghost use mathlib.Core.Bool.{_||_};
-ghost use Prim.Native.Nat.{_+_, _≤_};
 ghost use Rattle.base.specs.Compare.{under, over, notBelow};
 ghost use Rattle.lines.specs.Numbering.{noTally, countedNumber, countedWith, faultyNumber, faultyWith, Small, countedAll};
 use crate::Counted;

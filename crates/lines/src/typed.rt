@@ -1,5 +1,4 @@
 // The call: from a text of lines to the bytes of its job. The contract cites specs/Laws.
-ghost use mathlib.Core.Path.{_≡_};
 ghost use Prim.Native.Nat.{_≤_};
 ghost use lib.ListN.{length};
 ghost use Rattle.lines.specs.Laws.{Typing};

@@ -1,8 +1,8 @@
 // The job from its notes: header, rule records and literals by head, questions. The contracts cite specs/Placing.
 ghost use mathlib.Core.Path.{_≡_};
-ghost use mathlib.Core.List.{_++_, flatMap};
-ghost use Prim.Native.Nat.{suc, _+_, _*_, _<_, _≤_};
-ghost use lib.ListN.{length, drop, replicate};
+ghost use mathlib.Core.List.{flatMap};
+ghost use Prim.Native.Nat.{_+_, _*_, _<_, _≤_};
+ghost use lib.ListN.{length, replicate};
 ghost use Rattle.writing.specs.Written.{Put};
 ghost use Rattle.job.specs.Encoding.{encode};
 ghost use Rattle.lines.specs.Lines.{Lines, textOf, jobFrom};
