@@ -2,15 +2,17 @@
 --   cap-kept, cap-past                 a number that is not past it; one that is
 --   cap-add                            a digit more
 --   cap-over, cap-notBelow, cap-under  the tests of row 15
+--   digit-kept                         what is read digit by digit is never past it
 use Prim.Native.Nat.{ℕ, _+_, _*_, _<_, _≤_}
 use mathlib.Core.Path.{_≡_, refl, sym, _∙_, ap}
 use mathlib.Core.Bool.{Bool, true, false}
 use native.Mathlib.Omega.{arith}
 use borrow.Author.Tests.{ltb-true}
 use Rattle.base.specs.Compare.{under, over, notBelow}
-use Rattle.base.proofs.Choose.{pick-true, pick-false}
+use Rattle.base.proofs.Choose.{pick-true, pick-false, pick-both}
 use Rattle.base.proofs.Compare.{under-no, over-yes, over-no, over-le, notBelow-yes}
-use Rattle.lines.specs.Numbering.{cap}
+use Rattle.lines.specs.Grammar.{isDigit}
+use Rattle.lines.specs.Numbering.{cap, digitBy}
 
 pub cap-past : (n : ℕ) → 65536 < n → 65536 ≡ cap n
 unfolding cap
@@ -59,3 +61,12 @@ cap-under n = go (side n)
     go : Side n → under (cap n) 1 ≡ under n 1
     go (kept e) = ap (λ (x : ℕ). under x 1) (sym e)
     go (past l e) = under-no (cap n) 1 (omega arith) ∙ sym (under-no n 1 (omega arith))
+
+-- what is read digit by digit is never past it
+cap-most : (n : ℕ) → cap n ≤ 65536
+unfolding cap
+cap-most n = pick-both (λ (x : ℕ). x ≤ 65536) (over n 65536) 65536 n (λ e. omega arith) (λ e. over-le n 65536 e)
+
+pub digit-kept : (n b : ℕ) → digitBy cap n b ≤ 65536
+unfolding digitBy
+digit-kept n b = pick-both (λ (x : ℕ). x ≤ 65536) (isDigit b) _ 0 (λ e. cap-most _) (λ e. omega arith)

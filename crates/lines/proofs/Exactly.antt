@@ -1,7 +1,8 @@
 -- Rows 15 and 16 accept exactly the lines that are within the limits and have room. Assumes nothing.
---   accepted-within   accepted lines are within the limits
---   within-numbers    row 15 accepts lines that are
---   lines-within      both, with row 16's room
+--   accepted-within                   accepted lines are within the limits
+--   rule-good, ask-good, first-good   row 15 finds no fault in lines that are: a rule line, a question line, the first line
+--   within-numbers                    row 15 accepts them
+--   lines-within                      both, with row 16's room
 use Prim.Native.Nat.{ℕ, zero, suc, _+_, _<_, _≤_}
 use mathlib.Core.List.{List, [], _∷_, List·Memᴰ·head, List·Memᴰ·tail, Memᴰ·map, Memᴰ·of-map}
 use mathlib.Core.Path.{_≡_, refl, ap}
@@ -57,7 +58,7 @@ all-below a [] h = refl
 all-below a (x ∷ xs) h = or-no _ _ (notBelow-no _ _ (h x (List·Memᴰ·head refl))) (all-below a xs (λ m i. h m (List·Memᴰ·tail i)))
 
 module _ (l : Lines) (w : InLimits l) where
-  rule-good : (i : ℕ) → i < length (l .rules) → badRule l i ≡ false
+  pub rule-good : (i : ℕ) → i < length (l .rules) → badRule l i ≡ false
   rule-good i k =
       let o = Memᴰ·of-map asRule (l .rules) (at-in (0 if []) (typed l) i (omega (arith, typed-size l))) in
       let r = o .0 in
@@ -69,13 +70,13 @@ module _ (l : Lines) (w : InLimits l) where
       let body : someNotBelow (l .claims) (ruleIn l i .body) ≡ false = rw (← b) (all-below (l .claims) (r .body) (w .literals r (o .1))) in
       or-no _ _ (or-no _ _ (or-no _ _ (over-no _ _ most) (over-no _ _ few)) (notBelow-no _ _ head)) body
 
-  ask-good : (q : ℕ) → q < length (l .questions) → badAsk l q ≡ false
+  pub ask-good : (q : ℕ) → q < length (l .questions) → badAsk l q ≡ false
   ask-good q k =
       let m = at-in (record { worker = 0; claim = 0 }) (l .questions) q k in
       let most : q + 1 ≤ mostQuestions = omega (arith, w .questionsMost) in
       or-no _ _ (or-no _ _ (over-no _ _ most) (notBelow-no _ _ (w .askers (askIn l q) m))) (notBelow-no _ _ (w .asked (askIn l q) m))
 
-  first-good : Accepted ≡ checkFirst l
+  pub first-good : Accepted ≡ checkFirst l
   unfolding checkFirst
   first-good = pass _ _ _ _ (over-no _ _ (w .claimsMost)) (pass _ _ _ _ (under-no _ _ (w .workersLeast)) (pass _ _ _ _ (over-no _ _ (w .workersMost)) refl))
 

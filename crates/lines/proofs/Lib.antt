@@ -5,6 +5,7 @@ pub mod Saying
 pub mod Sorted
 pub mod Validity
 pub mod Exactly
+pub mod Passing
 pub mod Numbered
 pub mod Checking
 pub mod Heading
@@ -27,5 +28,6 @@ pub mod Placed
 pub mod Joined
 pub mod Notes
 pub mod Models
+pub mod Refusing
 pub mod Examples
 pub mod Typing

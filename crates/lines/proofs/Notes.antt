@@ -9,13 +9,12 @@ use native.Mathlib.Numerals.{add-one}
 use native.Mathlib.Omega.{arith}
 use lib.ListN.{length, getD, drop, drop-of-length-le, length-append}
 use lib.Seq.{drop-cons}
-use Rattle.base.specs.Compare.{over}
 use Rattle.base.proofs.Choose.{pick-both}
-use Rattle.base.proofs.Compare.{over-le}
 use Rattle.writing.specs.Written.{Put}
 use Rattle.writing.proofs.Onward.{Onward, onward-start, onward-size, onward-room, onward-more, onward-end}
+use Rattle.lines.proofs.Capped.{digit-kept}
 use Rattle.lines.specs.Grammar.{lineStart, isDigit}
-use Rattle.lines.specs.Numbering.{Scan, cap, digitBy, begin, advance, unlessDigit, eventIn, eventAt, Item, itemOf, items}
+use Rattle.lines.specs.Numbering.{Scan, cap, begin, advance, unlessDigit, eventIn, eventAt, Item, itemOf, items}
 use Rattle.lines.specs.Noting.{noteIn, notes, notesOf, Kept}
 use Rattle.lines.specs.declared.Slot.{Slot}
 use Rattle.lines.specs.declared.State.{State}
@@ -39,15 +38,7 @@ notes-from (b ∷ bs) sc line =
     notes-event (line + lineStart (sc .state)) (eventAt sc b) (items cap (advance cap sc b) (line + lineStart (sc .state)) bs)
     ∙ ap (λ (x : List ℕ). noteIn (eventAt sc b) ++ x) (notes-from bs (advance cap sc b) (line + lineStart (sc .state)))
 
--- numbers are kept at 65,536
-cap-most : (n : ℕ) → cap n ≤ 65536
-unfolding cap
-cap-most n = pick-both (λ (x : ℕ). x ≤ 65536) (over n 65536) 65536 n (λ e. omega arith) (λ e. over-le n 65536 e)
-
-digit-kept : (n b : ℕ) → digitBy cap n b ≤ 65536
-unfolding digitBy
-digit-kept n b = pick-both (λ (x : ℕ). x ≤ 65536) (isDigit b) _ 0 (λ e. cap-most _) (λ e. omega arith)
-
+-- an event has a number that is kept
 unless-kept : (s : Slot) (n b : ℕ) → n ≤ 65536 → Kept (unlessDigit s n b)
 unfolding unlessDigit
 unless-kept s n b h = pick-both Kept (isDigit b) Nothing (Number s n) (λ e. tt) (λ e. h)

@@ -1,14 +1,11 @@
 -- What the call promises (specs/Laws), from its rows and what it wrote. Assumes nothing.
 --   typing-refused, typing-made   of a text that is refused; of one whose job was written
-use Prim.Native.Nat.{ℕ, _≤_}
+use Prim.Native.Nat.{ℕ, _<_, _≤_}
 use mathlib.Core.Path.{_≡_, refl, sym, _∙_, ap}
 use mathlib.Core.Logic.{_↔_, _⊎_, inl, inr, ⊎-elim}
-use mathlib.Core.Bool.{Bool, true, false}
-use mathlib.Core.List.{List, [], _∷_}
+use mathlib.Core.List.{List}
 use native.Mathlib.Omega.{arith}
 use lib.ListN.{length}
-use Rattle.base.proofs.Choose.{pick-both}
-use Rattle.job.specs.Rows.{_⨾_, row}
 use Rattle.job.specs.Checks.{checkJob}
 use Rattle.job.specs.Encoding.{encode, Valid}
 use Rattle.job.specs.declared.Check.{Check}
@@ -19,66 +16,28 @@ use Rattle.semantics.specs.Model.{program, programOf}
 use Rattle.writing.specs.Written.{Put}
 use Rattle.lines.specs.Lines.{Lines, textOf, typed, jobFrom, jobSize}
 use Rattle.lines.specs.Fitting.{checkFit}
-use Rattle.lines.specs.Numbering.{cap, Item, itemsOf, countedNumber, faultyNumber, judged, noTally, countedAll}
+use Rattle.lines.specs.Numbering.{countedAll}
 use Rattle.lines.specs.Checks.{checkNumbers, checkRoom, checkLines}
-use Rattle.lines.specs.Room.{roomRow, checkCounts, checkText, Readable}
-use Rattle.lines.specs.Laws.{Unfit, InLimits, Made, Typing}
+use Rattle.lines.specs.Room.{checkCounts, checkText, Readable}
+use Rattle.lines.specs.Laws.{Unfit, InLimits, Past, Made, Typing}
 use Rattle.lines.specs.declared.Tally.{Tally}
-use Rattle.lines.specs.declared.Counted.{Counted}
 use Rattle.lines.proofs.Saying.{unique}
 use Rattle.lines.proofs.Tails.{sound}
 use Rattle.lines.proofs.Unfitting.{unfit-exactly, fit-or-unfit}
 use Rattle.lines.proofs.Checking.{text-check}
 use Rattle.lines.proofs.Sorted.{sorting, sorted-length, below-in}
-use Rattle.lines.proofs.Validity.{lines-valid, lines-below, job-taken, typed-size}
-use Rattle.lines.proofs.Exactly.{lines-within}
+use Rattle.lines.proofs.Validity.{lines-fit, lines-valid, lines-below, job-taken, typed-size}
+use Rattle.lines.proofs.Exactly.{accepted-within, within-numbers, lines-within}
+use Rattle.lines.proofs.Passing.{past-at, past-back}
+use Rattle.lines.proofs.Refusing.{counts-not, first-14, stop-14, short-at}
 use Rattle.lines.proofs.Joined.{put-front, put-within}
-use Rattle.lines.proofs.Whole.{fit, sized}
+use Rattle.lines.proofs.Whole.{fit, sized, encoded-size}
 use Rattle.lines.proofs.Examples.{worked}
 use Rattle.lines.proofs.Models.{sorted-program}
 
--- row 14 is the first of the rows
-abbrev Not14 : Check → Type 0
-Not14 Accepted = Unit {0}
-Not14 (Refused n p) = n ≡ 14 → ⊥
-
-then-not : (x y : Check) → Not14 x → Not14 y → Not14 (x ⨾ y)
-unfolding _⨾_
-then-not Accepted y a b = b
-then-not (Refused n p) y a b = a
-
-judged-not : (xs : List Item) (t : Tally) → Not14 (judged t xs .check)
-unfolding judged
-judged-not [] t = tt
-judged-not (x ∷ xs) t =
-    pick-both (λ (y : Counted). Not14 (y .check)) (faultyNumber (countedNumber t (x .slot) (x .value)) (x .slot) (x .value)) _ _ (λ e n. omega arith)
-    (λ e. judged-not xs (countedNumber t (x .slot) (x .value)))
-
-row-not : (b : Bool) (p : ℕ) → Not14 (row b 16 p)
-unfolding row
-row-not true p = λ n. omega arith
-row-not false p = tt
-
-room-not : (room : ℕ) (t : Tally) → Not14 (roomRow room t)
-unfolding roomRow
-room-not room t = then-not _ Accepted (row-not _ _) tt
-
-later-not : (s : List ℕ) (room : ℕ) → Not14 (checkCounts s room)
-unfolding checkCounts countedAll
-later-not s room = then-not _ _ (judged-not (itemsOf cap s) noTally) (room-not room _)
-
-first-14 : (x y : Check) (k : ℕ) → Not14 y → x ⨾ y ≡ Refused 14 k → x ≡ Refused 14 k
-unfolding _⨾_
-first-14 Accepted y k b e = absurd (not-it y k b e)
-  where
-    not-it : (c : Check) (j : ℕ) → Not14 c → c ≡ Refused 14 j → ⊥
-    not-it Accepted j n q = let z : _≡_ {A = ℕ} 0 1 = cc in omega arith
-    not-it (Refused n p) j f q = let z : n ≡ 14 = cc in f z
-first-14 (Refused n p) y k b e = e
-
-stop-14 : (x y : Check) (k : ℕ) → x ≡ Refused 14 k → x ⨾ y ≡ Refused 14 k
-unfolding _⨾_
-stop-14 x y k e = rw e
+-- the bytes that lines in the limits need
+bytes-needed : (l : Lines) → InLimits l → length (encode (jobFrom l)) ≡ jobSize l
+bytes-needed l w = encoded-size l (lines-fit l (within-numbers l w))
 
 module _ (s : List ℕ) (room : ℕ) (r : Check) (a : r ≡ checkText s room) where
   unfit-14 : (k : ℕ) → (r ≡ Refused 14 k) ↔ Unfit s k
@@ -86,7 +45,7 @@ module _ (s : List ℕ) (room : ℕ) (r : Check) (a : r ≡ checkText s room) wh
   unfit-14 k =
       let u = unfit-exactly s k in
       let y = checkCounts s room in
-      (λ e. u .0 (first-14 (checkFit s) y k (later-not s room) (sym a ∙ e)), λ q. a ∙ stop-14 (checkFit s) y k (u .1 q))
+      (λ e. u .0 (first-14 (checkFit s) y k (counts-not s room) (sym a ∙ e)), λ q. a ∙ stop-14 (checkFit s) y k (u .1 q))
 
   read-it : ((l : Lines) × (s ≡ textOf l)) ⊎ ((k : ℕ) × Unfit s k)
   read-it = ⊎-elim (λ f. inl f) (λ u. inr (u .0, u .2)) (fit-or-unfit s)
@@ -94,10 +53,22 @@ module _ (s : List ℕ) (room : ℕ) (r : Check) (a : r ≡ checkText s room) wh
   answer-of : (l : Lines) → s ≡ textOf l → r ≡ checkLines l room
   answer-of l e = a ∙ ap (λ (x : List ℕ). checkText x room) e ∙ text-check l room
 
-  exactly-of : (l : Lines) → s ≡ textOf l → (r ≡ Accepted) ↔ (InLimits l × (jobSize l ≤ room))
+  exactly-of : (l : Lines) → s ≡ textOf l → (r ≡ Accepted) ↔ (InLimits l × (length (encode (jobFrom l)) ≤ room))
   exactly-of l e =
-      let w = lines-within l room in
-      (λ ok. w .0 (sym ok ∙ answer-of l e), λ q. answer-of l e ∙ sym (w .1 q))
+      let w = lines-within l room in (
+        λ ok. let q = w .0 (sym ok ∙ answer-of l e) in (q .0, omega (arith, q .1, bytes-needed l (q .0))),
+        λ q. answer-of l e ∙ sym (w .1 (q .0, omega (arith, q .1, bytes-needed l (q .0)))),
+      )
+
+  fifteen-of : (l : Lines) → s ≡ textOf l → (k : ℕ) → (r ≡ Refused 15 k) ↔ Past l k
+  fifteen-of l e k = (λ f. past-at l room k (sym (answer-of l e) ∙ f), λ b. answer-of l e ∙ past-back l room k b)
+
+  short-of : (l : Lines) → s ≡ textOf l → (place : ℕ) → r ≡ Refused 16 place → InLimits l × (room < length (encode (jobFrom l))) × (place ≡ length (encode (jobFrom l)))
+  short-of l e place f =
+      let q = short-at l room place (sym (answer-of l e) ∙ f) in
+      let w = accepted-within l (lines-fit l (q .0)) in
+      let n = bytes-needed l w in
+      (w, omega (arith, q .1, n), omega (arith, q .2, n))
 
   -- a text that every row accepts
   pub readable : (t : Tally) → r ≡ Accepted → t ≡ countedAll s .tally → Readable s t room
@@ -120,6 +91,8 @@ typing-refused s out r n p a e =
           record {
             answer = answer-of s (length out) r a l q;
             exactly = exactly-of s (length out) r a l q;
+            fifteen = fifteen-of s (length out) r a l q;
+            short = short-of s (length out) r a l q;
             bytes = λ f. two e f;
             size = λ f. two e f;
             accepted = λ f. two e f;
@@ -157,6 +130,8 @@ module _ (s out out′ : List ℕ) (r : Check) (n : ℕ) (a : r ≡ checkText s 
       record {
         answer = answer-of s (length out) r a l e;
         exactly = exactly-of s (length out) r a l e;
+        fifteen = fifteen-of s (length out) r a l e;
+        short = λ place f. two f ok;
         bytes = λ f. put-front out (encode (jobFrom l)) out′ n (puts l e);
         size = λ f. omega (arith, puts l e .next);
         accepted = λ f. taken l (length out) (pass l e);

@@ -1,14 +1,16 @@
 -- What is promised of a text and its job (02, order 1). Lines has what a text says, Checks rows 15 and 16.
 --   Unfit s k               line k is the first line of s that doesn't fit: the lines before it are a text, and no text takes it in
 --   InLimits l              lines l are within the limits, in row 15's words
+--   front k l               the first k lines of l
+--   Past l k                line k is the first line of l that takes it past the limits
 --   Sorting                 what `sorted` does: each head's rules, in their order; heads never fall
 --   Made l out out′ r n     what the call gives of a text that says l: its answer r, the job's length n, the bytes out′ where `out` was lent
 --   Typing s out out′ r n   the whole promise, of every text s
-use Prim.Native.Nat.{ℕ, _+_, _<_, _≤_}
+use Prim.Native.Nat.{ℕ, _+_, _-_, _<_, _≤_}
 use mathlib.Core.List.{List, _++_}
 use mathlib.Core.Path.{_≡_}
 use mathlib.Core.Logic.{_↔_, _⊎_}
-use lib.ListN.{length, drop}
+use lib.ListN.{length, take, drop}
 use Rattle.job.specs.Job.{claimOf, Rule, bodyCount, mostClaims, mostRules, mostLiterals, mostWorkers, mostQuestions}
 use Rattle.job.specs.Checks.{checkJob}
 use Rattle.job.specs.Format.{jobOf}
@@ -20,7 +22,7 @@ use Rattle.job.specs.declared.Check.the-variants.{Accepted, Refused}
 use Rattle.semantics.specs.Model.{program, programOf}
 use Rattle.lines.specs.Checks.{checkLines}
 use Rattle.lines.specs.Worked.{Worked}
-use Rattle.lines.specs.Lines.{RuleLine, Lines, textOf, lineCount, typed, jobFrom, jobSize, headed, sorted}
+use Rattle.lines.specs.Lines.{RuleLine, Lines, textOf, lineCount, typed, jobFrom, headed, sorted}
 
 -- "14 over all lines, one that doesn't fit (line 1 if there are none)"; "Place: the line, from 1"
 pub record Unfit (s : List ℕ) (k : ℕ) : Type 0 where
@@ -44,6 +46,25 @@ pub record InLimits (l : Lines) : Type 0 where
   pub askers : (q : Question) → q ∈ l .questions → q .worker < l .workers
   pub asked : (q : Question) → q ∈ l .questions → q .claim < l .claims
 
+-- the first k lines of l, k at least 1: its first line, then rules, then questions
+abbrev pub front : ℕ → Lines → Lines
+front k l =
+    record {
+      claims = l .claims;
+      workers = l .workers;
+      rules = take (k - 1) (l .rules);
+      questions = take (k - 1 - length (l .rules)) (l .questions);
+    }
+
+-- "Place: the line, from 1", of row 15
+pub record Past (l : Lines) (k : ℕ) : Type 0 where
+  -- the lines before it are within the limits; the first line has none before it
+  pub before : (k ≡ 1) ⊎ ((2 ≤ k) × InLimits (front (k - 1) l))
+  -- with it they are not
+  pub here : InLimits (front k l) → ⊥
+  -- and it is a line of the text
+  pub line : k ≤ lineCount l
+
 -- "Rules come out sorted by head, one head's in line order"
 pub record Sorting : Type 0 where
   pub same : (a : ℕ) (rs : List Rule) (h : ℕ) → h < a → headed h (sorted a rs) ≡ headed h rs
@@ -53,7 +74,11 @@ pub record Made (l : Lines) (out out′ : List ℕ) (r : Check) (n : ℕ) : Type
   -- rows 15 and 16
   pub answer : r ≡ checkLines l (length out)
   -- accepted exactly where the lines are within the limits and the output has room
-  pub exactly : (r ≡ Accepted) ↔ (InLimits l × (jobSize l ≤ length out))
+  pub exactly : (r ≡ Accepted) ↔ (InLimits l × (length (encode (jobFrom l)) ≤ length out))
+  -- refused by 15 at line k exactly where that is the first line that takes them past the limits
+  pub fifteen : (k : ℕ) → (r ≡ Refused 15 k) ↔ Past l k
+  -- "16 output too short", place "the bytes needed"
+  pub short : (place : ℕ) → r ≡ Refused 16 place → InLimits l × (length out < length (encode (jobFrom l))) × (place ≡ length (encode (jobFrom l)))
   -- the output begins with the job's bytes; "Bytes past what is written stay."
   pub bytes : r ≡ Accepted → out′ ≡ encode (jobFrom l) ++ drop (length (encode (jobFrom l))) out
   pub size : r ≡ Accepted → n ≡ length (encode (jobFrom l))

@@ -3,7 +3,7 @@
 // The other contracts cite Grammar and Fitting (row 14 along the bytes), Numbering (row 15), Room (row 16), Noting and Placing (the
 // rules by head), Header.
 mod fits;
-mod grammar;
+pub mod grammar;
 mod note;
 mod numbers;
 mod place;

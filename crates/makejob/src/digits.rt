@@ -1,18 +1,12 @@
 // The numbers of a line.
 ghost use Prim.Native.Nat.{_≤_};
 ghost use lib.ListN.{length};
+use lines::grammar;
 
 // A number's digits, from byte `start` to before byte `end`; none where these are equal.
 pub struct Digits {
     pub start: usize,
     pub end: usize,
-}
-
-pub fn is_digit(b: u8) -> bool {
-    if b < b'0' {
-        return false;
-    }
-    b <= b'9'
 }
 
 // The first digit from `at` on, or the line's end.
@@ -22,7 +16,7 @@ fn first_from(line: &[u8], at: usize) -> usize
 {
     let mut start = at;
     while start < line.len() {
-        if is_digit(line[start]) {
+        if grammar::is_digit(line[start]) {
             return start;
         }
         start += 1;
@@ -31,13 +25,13 @@ fn first_from(line: &[u8], at: usize) -> usize
 }
 
 // The end of the digits that stand at `at`.
-pub fn end_from(line: &[u8], at: usize) -> usize
+fn end_from(line: &[u8], at: usize) -> usize
     requires { ⌜ at ≤ length (now line) ⌝ }
     ensures { λ r. ⌜ (at ≤ r) × (r ≤ length (now (line .entry))) ⌝ }
 {
     let mut end = at;
     while end < line.len() {
-        if !is_digit(line[end]) {
+        if !grammar::is_digit(line[end]) {
             return end;
         }
         end += 1;
@@ -65,24 +59,20 @@ pub fn bytes_of(line: &[u8], number: Digits) -> &[u8]
     &line[start..end]
 }
 
-// A digit more; 65,536, which is past every limit, stands for what is above it.
-fn with_digit(value: usize, b: u8) -> usize {
-    if 6553 < value {
-        return 65536;
-    }
-    10 * value + (b % 16) as usize
-}
-
-fn value_of(bytes: &[u8]) -> usize {
+// 65,536, which is past every limit, stands for what is above it.
+fn value_of(bytes: &[u8]) -> usize
+    ensures { λ r. ⌜ r ≤ 65536 ⌝ }
+{
     let mut value: usize = 0;
     for i in 0..bytes.len() {
-        value = with_digit(value, bytes[i]);
+        value = grammar::with_digit(value, bytes[i]);
     }
     value
 }
 
 pub fn value(line: &[u8], number: Digits) -> usize
     requires { ⌜ (number .start ≤ number .end) × (number .end ≤ length (now line)) ⌝ }
+    ensures { λ r. ⌜ r ≤ 65536 ⌝ }
 {
     value_of(bytes_of(line, number))
 }

@@ -1,6 +1,7 @@
 // The lines of a text, numbered from 1.
+ghost use mathlib.Core.Path.{_≡_};
 ghost use Prim.Native.Nat.{_≤_};
-ghost use lib.ListN.{length};
+ghost use lib.ListN.{length, getD};
 
 // One line less to pass where a line ends.
 fn less_at(left: usize, b: u8) -> usize {
@@ -54,7 +55,9 @@ pub fn has_line_feed(text: &[u8], line: usize) -> bool {
 }
 
 // 0 where a line has no byte.
-pub fn first_byte(line: &[u8]) -> u8 {
+pub fn first_byte(line: &[u8]) -> u8
+    ensures { λ r. ⌜ r ≡ getD (now (line .entry)) 0 0 ⌝ }
+{
     if 0 < line.len() {
         return line[0];
     }

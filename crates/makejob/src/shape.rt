@@ -1,130 +1,39 @@
-// How far a line fits what may stand there: `claims 12 workers 3`, `ask 0 7`, `7.` or `7 if 8, not 9.`
+// How far a line fits what may stand there, by the machine that reads a text.
 ghost use Prim.Native.Nat.{_≤_};
 ghost use lib.ListN.{length};
-use crate::digits;
+use lines::State;
+use lines::grammar;
 
-// What fits ends before byte `at`; whether it is all that was to come.
+// What fits ends before byte `at`; whole where only the line feed is to come.
 pub struct Reach {
     pub at: usize,
     pub whole: bool,
 }
 
-// The byte behind what fits, if that is whole; else 0.
-fn next_byte(line: &[u8], reach: Reach) -> u8 {
-    let at = reach.at;
-    if !reach.whole {
-        return 0;
+// A line behind a question too starts as any: `sort` tells a rule there.
+fn start_of(first: bool) -> State {
+    if first {
+        return State::FirstLine;
     }
-    if at < line.len() {
-        return line[at];
-    }
-    0
-}
-
-fn word(line: &[u8], reach: Reach, letters: &[u8]) -> Reach
-    requires { ⌜ reach .at ≤ length (now line) ⌝ }
-    ensures { λ r. ⌜ r .at ≤ length (now (line .entry)) ⌝ }
-{
-    if !reach.whole {
-        return reach;
-    }
-    let mut at = reach.at;
-    for k in 0..letters.len() {
-        if line.len() <= at {
-            return Reach { at, whole: false };
-        }
-        if line[at] != letters[k] {
-            return Reach { at, whole: false };
-        }
-        at += 1;
-    }
-    Reach { at, whole: true }
-}
-
-fn number(line: &[u8], reach: Reach) -> Reach
-    requires { ⌜ reach .at ≤ length (now line) ⌝ }
-    ensures { λ r. ⌜ r .at ≤ length (now (line .entry)) ⌝ }
-{
-    if !reach.whole {
-        return reach;
-    }
-    let at = reach.at;
-    let end = digits::end_from(line, at);
-    if end <= at {
-        return Reach { at, whole: false };
-    }
-    if line[at] == b'0' {
-        return Reach {
-            at: at + 1,
-            whole: true,
-        };
-    }
-    Reach {
-        at: end,
-        whole: true,
-    }
-}
-
-fn literal(line: &[u8], reach: Reach) -> Reach
-    requires { ⌜ reach .at ≤ length (now line) ⌝ }
-    ensures { λ r. ⌜ r .at ≤ length (now (line .entry)) ⌝ }
-{
-    if next_byte(line, reach) == b'n' {
-        let negated = word(line, reach, b"not ");
-        return number(line, negated);
-    }
-    number(line, reach)
-}
-
-// Literals with commas between; each takes a byte at least.
-fn body(line: &[u8], reach: Reach) -> Reach
-    requires { ⌜ reach .at ≤ length (now line) ⌝ }
-    ensures { λ r. ⌜ r .at ≤ length (now (line .entry)) ⌝ }
-{
-    let mut read = literal(line, reach);
-    for _ in 0..line.len() {
-        if next_byte(line, read) != b',' {
-            return read;
-        }
-        let comma = word(line, read, b", ");
-        read = literal(line, comma);
-    }
-    read
-}
-
-fn rule(line: &[u8], head: Reach) -> Reach
-    requires { ⌜ head .at ≤ length (now line) ⌝ }
-    ensures { λ r. ⌜ r .at ≤ length (now (line .entry)) ⌝ }
-{
-    if next_byte(line, head) == b'.' {
-        return word(line, head, b".");
-    }
-    let given = word(line, head, b" if ");
-    let read = body(line, given);
-    word(line, read, b".")
-}
-
-// A word, a number, a word, a number.
-fn pair(line: &[u8], reach: Reach, one: &[u8], two: &[u8]) -> Reach
-    requires { ⌜ reach .at ≤ length (now line) ⌝ }
-    ensures { λ r. ⌜ r .at ≤ length (now (line .entry)) ⌝ }
-{
-    let a = word(line, reach, one);
-    let b = number(line, a);
-    let c = word(line, b, two);
-    number(line, c)
+    State::AnyLine
 }
 
 pub fn reach_of(line: &[u8], first: bool) -> Reach
     ensures { λ r. ⌜ r .at ≤ length (now (line .entry)) ⌝ }
 {
-    let start = Reach { at: 0, whole: true };
-    if first {
-        return pair(line, start, b"claims ", b" workers ");
+    let mut state = start_of(first);
+    for i in 0..line.len() {
+        let next = grammar::step(state, line[i]);
+        if grammar::is_bad(next) {
+            return Reach {
+                at: i,
+                whole: false,
+            };
+        }
+        state = next;
     }
-    if next_byte(line, start) == b'a' {
-        return pair(line, start, b"ask ", b" ");
+    Reach {
+        at: line.len(),
+        whole: !grammar::is_bad(grammar::step(state, b'\n')),
     }
-    let head = number(line, start);
-    rule(line, head)
 }

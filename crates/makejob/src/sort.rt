@@ -1,7 +1,7 @@
 // What sort of fault a line has that doesn't fit.
-use crate::digits;
 use crate::line;
 use crate::shape::Reach;
+use lines::grammar;
 
 pub enum Sort {
     // No line at all; one without a byte; one that lacks only its line feed.
@@ -25,7 +25,7 @@ fn is_late(text: &[u8], line: usize) -> bool {
         return false;
     }
     let typed = line::line_of(text, line);
-    digits::is_digit(line::first_byte(typed))
+    grammar::is_digit(line::first_byte(typed))
 }
 
 // Of the byte that doesn't fit, and the one before it.
@@ -36,7 +36,7 @@ fn sort_of_byte(before: u8, b: u8) -> Sort {
     if before != b'0' {
         return Sort::Other;
     }
-    if digits::is_digit(b) {
+    if grammar::is_digit(b) {
         return Sort::LeadingZero;
     }
     Sort::Other

@@ -1,14 +1,19 @@
--- `makejob::digits::value_of` is safe and ends. Assumes nothing.
+-- `makejob::digits::value_of` is safe and ends, and its answer is not past 65,536. Assumes nothing.
 use mathlib.Core.Path.{_≡_}
-use Prim.Native.Nat.{_≤_, _-_}
+use Prim.Native.Nat.{ℕ, _≤_, _-_}
 use borrow.Author.Needs.{needs}
 use native.Mathlib.Omega.{arith}
 use lib.ListN.{length}
+use Rattle.lines.specs.Numbering.{cap, digitBy}
+use Rattle.lines.proofs.Capped.{digit-kept}
 use Rattle.makejob.proofs.digits.value_of.Statement.{statement}
 use Rattle.makejob.proofs.digits.value_of.Tie as tie
 
+kept : (r n b : ℕ) → r ≡ digitBy cap n b → r ≤ 65536
+kept r n b e = rw e (digit-kept n b)
+
 abbrev Inv-loop : tie.InvT-loop
-Inv-loop bytes value₀ i₀ i-end value i = (i-end ≡ length bytes) × (i ≤ length bytes)
+Inv-loop bytes value₀ i₀ i-end value i = (i-end ≡ length bytes) × (i ≤ length bytes) × (value ≤ 65536)
 
 abbrev μ-loop : tie.MeasureT-loop
 μ-loop bytes value₀ i₀ i-end value i = length bytes - i
@@ -29,7 +34,7 @@ loop-less : tie.Need-loop-less Inv-loop μ-loop
 loop-less c = omega arith
 
 loop-again : tie.Need-loop-again Inv-loop μ-loop
-loop-again c = omega arith
+loop-again c = omega (arith, kept _ _ _ (c .with-digit .ensures))
 
 returns : tie.Need-returns Inv-loop μ-loop
 returns c = omega arith
