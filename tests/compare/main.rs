@@ -32,7 +32,7 @@ compare verdicts < JOB           the library's verdicts, claim and verdict a lin
 ";
 
 /// Kinds and how many jobs of each the gate compares.
-const GATE: [(&str, u64); 13] = [
+const GATE: [(&str, u64); 14] = [
     ("tiny", 6500),
     ("small", 6500),
     ("damaged", 5000),
@@ -46,6 +46,7 @@ const GATE: [(&str, u64); 13] = [
     ("tower", 200),
     ("failing", 500),
     ("large", 50),
+    ("marred", 50),
 ];
 
 /// A made input is compared twice: its job alone, and all its bytes, with the

@@ -28,7 +28,7 @@ listing                                  all that the gate runs
 listing made KINDS FROM COUNT [whole]    made inputs of these kinds (commas between, or `all`),
                                          COUNT seeds each, the first of them FROM; with
                                          `whole` none is left out as too long
-listing edges [whole]                    the edge cases
+listing edges [whole]                    the edge cases; with `whole` however long they take
 
 Kinds: those of `oracle kinds`; `long`, lengths around 65,536; `cut`, inputs cut short;
 `turns`, schedules with workers that aren't; `bytes`, random bytes; `fields`, random
@@ -70,6 +70,8 @@ struct Limits {
 
 /// Inputs of a few seconds at most.
 const GATE_LIMITS: Limits = Limits { steps: 4_000_000_000, seconds: "120" };
+/// No edge case is left out, not even the chain of 4,096 claims.
+const EDGE_LIMITS: Limits = Limits { steps: u64::MAX, seconds: "120" };
 const NO_LIMITS: Limits = Limits { steps: u64::MAX, seconds: "0" };
 
 /// With so many differences no more inputs are listed.
@@ -141,7 +143,7 @@ fn list_made(all: &mut Totals, kind: &str, from: u64, count: u64, limits: Limits
 }
 
 fn list_gate(all: &mut Totals) {
-    list_edges(all, GATE_LIMITS);
+    list_edges(all, EDGE_LIMITS);
     for (kind, count) in GATE {
         let made = list_made(all, kind, 0, count, GATE_LIMITS);
         if let Some(fault) = missing_unmet(kind, made.accepted, made.missing_jobs) {
@@ -153,10 +155,10 @@ fn list_gate(all: &mut Totals) {
     }
 }
 
-/// The limits by the last word of the command.
-fn limits_of(words: &[&str]) -> Limits {
+/// The limits by the last word of the command; without one they are the gate's.
+fn limits_of(words: &[&str], gate: Limits) -> Limits {
     match words {
-        [] => GATE_LIMITS,
+        [] => gate,
         ["whole"] => NO_LIMITS,
         _ => refuse(USAGE),
     }
@@ -168,10 +170,10 @@ fn main() {
     let mut all = Totals::default();
     match words.as_slice() {
         [] => list_gate(&mut all),
-        ["edges", rest @ ..] => list_edges(&mut all, limits_of(rest)),
+        ["edges", rest @ ..] => list_edges(&mut all, limits_of(rest, EDGE_LIMITS)),
         ["made", kinds, from, count, rest @ ..] => {
             let (Ok(from), Ok(count)) = (from.parse(), count.parse()) else { refuse(USAGE) };
-            let limits = limits_of(rest);
+            let limits = limits_of(rest, GATE_LIMITS);
             for kind in kinds_named(kinds, &GATE) {
                 list_made(&mut all, &kind, from, count, limits);
             }

@@ -67,7 +67,7 @@ fn put_claim(table: &mut Table, random: &mut Random, complete: usize) {
 }
 
 /// Marks claims with missing records false, as no run does, in half of the tables.
-fn put_missing_false(table: &mut Table, random: &mut Random) {
+pub fn put_missing_false(table: &mut Table, random: &mut Random) {
     let chance = random.pick(&[0, 0, 40, 90]);
     for claim in table.claims().filter(|&claim| table.job.has_missing_record(claim)) {
         if random.percent(chance) {

@@ -22,6 +22,7 @@ pub mod large;
 pub mod leads;
 pub mod lent_tables;
 pub mod limit_edges;
+pub mod limit_jobs;
 pub mod lines;
 pub mod lines_again;
 pub mod lines_check;

@@ -39,15 +39,17 @@ table orders                           edge cases of the change orders
 table lengths                          lengths of 4 GiB and more
 
 Kinds: those of `oracle kinds`, each a list of calls from a start; `table`, tables
-that no run made; `words`, tables with words out of range.
+that no run made; `known`, such tables of large jobs, many claims complete; `words`,
+tables with words out of range.
 ";
 
 /// Kinds and how many jobs of each the gate compares.
-const GATE: [(&str, u64); 16] = [
+const GATE: [(&str, u64); 17] = [
     ("tiny", 1500),
     ("small", 1500),
     ("failing", 3000),
     ("table", 8000),
+    ("known", 10),
     ("words", 120),
     ("damaged", 1000),
     ("empty", 100),
@@ -78,6 +80,7 @@ fn compare_made(totals: &mut Totals, kind: &str, from: u64, count: u64, work: us
         };
         match kind {
             "table" => single::compare_table(totals, &name, &input),
+            "known" => single::compare_known(totals, &name, &input),
             _ => lists::compare_input(totals, &name, &input, work),
         }
     }

@@ -13,6 +13,9 @@ use crate::lent::Lent;
 use crate::others::{any_call, bad_call, bad_turns, edge_value, some_turns, too_large};
 use crate::totals::Totals;
 
+/// Turns of each worker on a table in which many verdicts are known.
+const KNOWN_TURNS: usize = 40;
+
 /// A job with words that may be a table of it.
 struct Single<'a> {
     name: &'a str,
@@ -78,6 +81,20 @@ pub fn compare_table(totals: &mut Totals, name: &str, input: &[u8]) {
     for step in 0..random.within(0, 40) {
         let call = any_call(random, job);
         words = single.make(totals, &format!("step {step}"), &words, &call);
+    }
+}
+
+/// A large job with a table in which many verdicts are known: a run of every
+/// worker on it, as long as their next completion is likely to need.
+pub fn compare_known(totals: &mut Totals, name: &str, input: &[u8]) {
+    totals.jobs += 1;
+    let (bytes, rest) = part_input(input);
+    let words: Vec<u32> = rest.chunks_exact(4).map(|word| word_at(word, 0)).collect();
+    let single = Single::new(name, bytes);
+    let job = single.job.as_ref().expect("a job with a table is accepted");
+    totals.count_job(job);
+    for worker in 0..job.workers {
+        single.make(totals, "the table as it is", &words, &Call::Run(vec![worker as u8; KNOWN_TURNS]));
     }
 }
 

@@ -1,3 +1,9 @@
 pub mod Output
 pub mod Passes
+pub mod Positions
+pub mod Placing
+pub mod Queues
+pub mod Counters
+pub mod Doubts
 pub mod Rounds
+pub mod Rooms

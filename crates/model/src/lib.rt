@@ -1,8 +1,13 @@
-// The evaluation of a job: its well-founded model (crate semantics), computed. The contracts cite specs/: Output (what plain evaluation
-// ensures), Passes and Rounds (how it goes).
+// The evaluation of a job: its well-founded model (crate semantics), computed.
+mod alternate;
 mod derive;
+mod doubt;
 pub mod evaluate;
+mod occurrences;
+mod recover;
+mod rooms;
 pub mod sets;
+mod verdicts;
 
 // The bytes of verdicts (semantics/specs/Model: byteOf), and that of a claim whose verdict is not known.
 pub const UNKNOWN: u8 = 0;

@@ -1,0 +1,234 @@
+-- U shrinks to D(K) (specs/Rounds): from K = D(U) to the claims that are doubted, and from these to the next U. Assumes nothing.
+--   risen-by         the keys of K are taken
+--   risen-falling    the counters of U, before the negations of K's new claims fail
+--   fell-by          they failed: what is doubted, and what is left
+--   fell-growing, -ready, -upper   some claims came back, and U is D(K)
+use Prim.Native.Nat.{ℕ, _*_, _<_, _≤_}
+use mathlib.Core.Path.{_≡_, refl, sym, _∙_, ap, subst}
+use mathlib.Core.Bool.{Bool, true, false, not, _&&_, _||_}
+use mathlib.Core.List.{List}
+use mathlib.Core.Logic.{_⊎_, ⊎-elim}
+use native.Mathlib.Omega.{arith}
+use lib.Dec.{T, T-not, not-T}
+use lib.ListN.{length, getD}
+use Rattle.base.specs.Sets.{Claims, _⊆_, one}
+use Rattle.base.proofs.Bools.{is, is-not, or-cases, and-left}
+use Rattle.job.specs.Accepted.{WellFormed}
+use Rattle.job.specs.Format.{claims, rules, literals, headAt, missingAt, literalAt}
+use Rattle.job.specs.declared.Literal.{Literal}
+use Rattle.job.specs.declared.Literal.the-variants.{Plain, Negated}
+use Rattle.job.proofs.Lengths.{missing-none}
+use Rattle.semantics.specs.Model.{holds, D}
+use Rattle.model.specs.Passes.{setOf, givenProgram}
+use Rattle.model.specs.Positions.{keyOf, keyAt, keys, owners, Counts, failBase}
+use Rattle.model.specs.Queues.{seen, pending}
+use Rattle.model.specs.Counters.{lacking, Aim, Ready, Growing, Raised, Idle, givenTo}
+use Rattle.model.specs.Doubts.{Stand, Falling, Sunk, Negations, Recovered}
+use Rattle.model.specs.Rounds.{Round, Upper, aimK, Poised, Risen, Course, Fell}
+use Rattle.model.proofs.Bytes.{set-yes}
+use Rattle.model.proofs.Beginning.{given-some, given-is}
+use Rattle.model.proofs.Counting.{counts-same}
+use Rattle.model.proofs.Queues.{pending-end, pending-start}
+use Rattle.model.proofs.Owning.{owners-owned}
+use Rattle.model.proofs.Lacking.{nothing-lacks, all-hold}
+use Rattle.model.proofs.Roles.{closed-fail}
+use Rattle.model.proofs.Joining.{joins-grown}
+use Rattle.model.proofs.Growing.{growing-fires}
+use Rattle.model.proofs.Grown.{growing-counts, growing-from, growing-joins, grown-K, grown-U}
+use Rattle.model.proofs.Leaving.{fallen-front}
+use Rattle.model.proofs.Sinking.{sunk-fewer}
+use Rattle.model.proofs.Remaining.{sunk}
+use Rattle.model.proofs.Rounds.{rising-below, rising-next}
+
+-- a missing record counts nothing for U, so its head is in U
+missing-in : (s g : List ℕ) (K : Claims) (fail u : List ℕ) → WellFormed s → Upper s g K fail u → (r : ℕ) → r < rules s → failBase s g r ≡ 0 → missingAt s r ≡ true → T (setOf u (headAt s r))
+missing-in s g K fail u good upper r l z m =
+    upper .ready .ready r l
+    (nothing-lacks s good K (setOf u) (owners-owned s good) (upper .counts) r l z (λ p w. absurd (omega (arith, w .from, w .to, missing-none s r m))))
+
+module _ (s g : List ℕ) (K₀ : Claims) (good : WellFormed s) where
+  pub risen-by :
+      (need fail k u q : List ℕ) (t : ℕ) → Poised s g K₀ need fail k u q t → (need′ k′ q′ : List ℕ) (t′ : ℕ)
+      → Raised s (owners s) need k q 0 t need′ k′ q′ t′ (literals s) t′ → Risen s g K₀ fail k′ u q′ t′
+  risen-by need fail k u q t now need′ k′ q′ t′ raised =
+      let end = raised .carried .each (aimK s g (setOf u)) (now .growing) in
+      record {
+        rising = now .rising;
+        upper = now .upper;
+        is =
+            grown-K s g good (setOf u) need′ k′ (raised .ready) (end .inside) (growing-counts end) (λ c x. raised .grown .keeps c (now .given c x))
+            (now .upper .given) (missing-in s g K₀ fail u good (now .upper));
+        size = end .fits .size;
+        queue = end .fits .queue;
+        joined = λ c.
+            raised .grown .joined c ∙ ap (λ (b : Bool). b || (setOf k′ c && not (setOf k c))) (now .joined c)
+            ∙ go (K₀ c) (setOf k c) (setOf k′ c) (now .kept c) (raised .grown .keeps c);
+        kept = λ c x. raised .grown .keeps c (now .kept c x);
+      }
+    where
+      go : (x y z : Bool) → (T x → T y) → (T y → T z) → ((y && not x) || (z && not y)) ≡ (z && not x)
+      go true false z f h = absurd (f tt)
+      go x true false f h = absurd (h tt)
+      go true true true f h = refl
+      go false true true f h = refl
+      go false false true f h = refl
+      go false false false f h = refl
+
+  module _ (fail k u q : List ℕ) (t : ℕ) (now : Risen s g K₀ fail k u q t) where
+    stand : Stand
+    stand = record { base = failBase s g; given = λ c. givenTo true (getD g c 0) }
+
+    -- the negations of K's new claims fail, and nothing else does yet
+    module _ (l : List ℕ) (n : ℕ) (long : keys s ≤ length l) (negations : Negations q t l n) where
+      due-in : (x : Literal) → not (holds K₀ (setOf u) x) ≡ (not (holds (setOf k) (setOf u) x) && not (seen l n (keyOf x)))
+      unfolding keyOf
+      due-in (Plain c) = rw (negations .plain c) (go (not (setOf u c)))
+        where
+          go : (b : Bool) → b ≡ (b && true)
+          go true = refl
+          go false = refl
+      due-in (Negated c) = rw (negations .negated c, now .joined c) (go (K₀ c) (setOf k c) (now .kept c))
+        where
+          go : (x y : Bool) → (T x → T y) → not (not x) ≡ (not (not y) && not (y && not x))
+          go true true f = refl
+          go true false f = absurd (f tt)
+          go false true f = refl
+          go false false f = refl
+
+      same-due : (p : ℕ) → p < literals s → lacking s K₀ (setOf u) p ≡ (lacking s (setOf k) (setOf u) p && not (pending s l n 0 (literals s) p))
+      unfolding lacking keyAt
+      same-due p m =
+          due-in (literalAt s (rules s) p)
+          ∙ sym (ap (λ (b : Bool). not (holds (setOf k) (setOf u) (literalAt s (rules s) p)) && not b) (pending-start s l n (literals s) p m))
+
+      falls : Falling s stand (setOf k) (owners s) fail u l 0 (literals s) n
+      unfolding stand failBase one
+      falls =
+          record {
+            counts =
+                counts-same (lacking s K₀ (setOf u)) (λ p. lacking s (setOf k) (setOf u) p && not (pending s l n 0 (literals s) p)) same-due (now .upper .counts);
+            queue = negations .queue (claims s) long (now .queue);
+            size = now .upper .size;
+            plain = λ c v. absurd (is-not (seen l n (2 * c)) (negations .plain c) v);
+            negated = λ c v. and-left (setOf k c) (not (K₀ c)) (subst T (negations .negated c ∙ now .joined c) v);
+            few = λ r m. few (setOf g (headAt s r));
+            given = λ c v. now .upper .given c (given-is g true c v);
+            apart = λ r m v. rw (set-yes g (headAt s r) (given-some g true (headAt s r) v)) (omega arith);
+          }
+        where
+          few : (b : Bool) → one b ≤ 1
+          few true = omega arith
+          few false = omega arith
+
+      pub risen-falling : (b : Stand) × Falling s b (setOf k) (owners s) fail u l 0 (literals s) n
+      risen-falling = (stand, falls)
+
+      module _ (fail₁ u₁ l₁ : List ℕ) (end : ℕ) (fell : Sunk s k (owners s) fail u l 0 n fail₁ u₁ l₁ end (literals s) end) where
+        last : Falling s stand (setOf k) (owners s) fail₁ u₁ l₁ end (literals s) end
+        unfolding stand
+        last = fell .carried .each stand falls
+
+        counts : Counts s (owners s) fail₁ (failBase s g) (lacking s (setOf k) (setOf u₁))
+        unfolding stand
+        counts =
+            counts-same (λ p. lacking s (setOf k) (setOf u₁) p && not (pending s l₁ end end (literals s) p)) (lacking s (setOf k) (setOf u₁))
+            (λ p m. ap (λ (b : Bool). lacking s (setOf k) (setOf u₁) p && not b) (pending-end s l₁ end (literals s) p) ∙ on (lacking s (setOf k) (setOf u₁) p)) (last .counts)
+          where
+            on : (b : Bool) → (b && true) ≡ b
+            on true = refl
+            on false = refl
+
+        round : Round (givenProgram s g) K₀ (setOf u) (setOf k)
+        round = record { nextU = now .upper .is; nextK = now .is }
+
+        rests : setOf k ⊆ D (givenProgram s g) (setOf k)
+        rests = rising-below (givenProgram s g) (setOf k) (rising-next (givenProgram s g) K₀ (now .rising) (setOf u) (setOf k) round)
+
+        fewer : setOf u₁ ⊆ setOf u
+        fewer = sunk-fewer s k (owners s) fail u l 0 n fail₁ u₁ l₁ end (literals s) end fell
+
+        pub fell-left : (c : ℕ) → setOf u c ≡ (setOf u₁ c || seen l₁ end (2 * c))
+        fell-left c = sym (ap (λ (b : Bool). setOf u c || b) (negations .plain c) ∙ off (setOf u c)) ∙ fell .fallen .left c
+          where
+            off : (b : Bool) → (b || false) ≡ b
+            off true = refl
+            off false = refl
+
+        -- a rule that counts nothing now counted nothing before
+        still : (r : ℕ) → r < rules s → getD fail₁ r 0 ≡ 0 → getD fail r 0 ≡ 0
+        still r m z =
+            let now₁ = all-hold s good (setOf k) (setOf u₁) (owners-owned s good) counts r m z in
+            nothing-lacks s good K₀ (setOf u) (owners-owned s good) (now .upper .counts) r m (now₁ .0) (λ p w. wider (literalAt s (rules s) p) (now₁ .1 p w))
+          where
+            wider : (x : Literal) → T (holds (setOf k) (setOf u₁) x) → T (holds K₀ (setOf u) x)
+            wider (Plain c) v = fewer c v
+            wider (Negated c) v = not-T (K₀ c) (λ y. T-not (setOf k c) v (now .kept c y))
+
+        pub fell-by : Fell s (record { known = g; before = setOf k }) fail₁ u₁ l₁ n end
+        unfolding stand
+        fell-by =
+            record {
+              rests = rests;
+              inside = sunk s g good K₀ (setOf k) (owners s) fail fail₁ u u₁ (owners-owned s good) (now .upper .counts) counts (now .upper .is) (fell .kept) rests fewer;
+              counts = counts;
+              ready = λ r m z. or-cases (setOf u₁ (headAt s r)) (seen l₁ end (2 * headAt s r)) (subst T (fell-left (headAt s r)) (now .upper .ready .ready r m (still r m z)));
+              given = λ c x. last .given c (is (givenTo true (getD g c 0)) (x .given));
+              size = last .size;
+              doubted =
+                  record {
+                    queue = last .queue;
+                    ordered = fell .fallen .up;
+                    before = λ c. fallen-front (fell .fallen) (2 * c) ∙ negations .plain c;
+                    evens = fell .fallen .evens;
+                  };
+            }
+
+-- some doubted claims came back
+module _ (s : List ℕ) (a : Course) (good : WellFormed s) (fail u l : List ℕ) (from end : ℕ) (now : Fell s a fail u l from end) (q : List ℕ) (long : keys s ≤ length q) where
+  aimU : Aim
+  aimU = record { against = a .before; base = failBase s (a .known); most = D (givenProgram s (a .known)) (a .before) }
+
+  first : Growing s aimU (owners s) fail u q 0 (literals s) 0
+  unfolding aimU
+  first = growing-from s aimU (owners s) fail u q (now .counts) (now .size) long (now .inside) (closed-fail s (a .known) good (a .before) (now .rests))
+
+  -- a claim with a rule that counts nothing
+  idle-in : (c : ℕ) → Idle s fail c → (c < claims s) × T (aimU .most c)
+  idle-in c x = (
+    subst (λ (d : ℕ). d < claims s) (x .head) (good .head (x .by) (x .below)),
+    subst (λ (d : ℕ). T (aimU .most d)) (x .head) (growing-fires s aimU (owners s) fail u q 0 (literals s) 0 good (owners-owned s good) first (x .by) (x .below) (x .none)),
+  )
+
+  module _ (u₁ q₁ : List ℕ) (t : ℕ) (recovered : Recovered s fail l end u q u₁ q₁ t) where
+    keeps : setOf u ⊆ setOf u₁
+    keeps = joins-grown (Idle s fail) (λ c x. idle-in c x .0) (first .fits) (recovered .joins) .keeps
+
+    again : Growing s aimU (owners s) fail u₁ q₁ 0 (literals s) t
+    again = growing-joins (Idle s fail) good (owners-owned s good) idle-in first (recovered .joins)
+
+    pub fell-growing : (b : Aim) × Growing s b (owners s) fail u₁ q₁ 0 (literals s) t
+    fell-growing = (aimU, again)
+
+    pub fell-ready : Ready s fail u₁ (rules s)
+    fell-ready =
+        record {
+          ready = λ r m z.
+              ⊎-elim (keeps (headAt s r)) (λ v. recovered .found (headAt s r) v (record { by = r; below = m; none = z; head = refl })) (now .ready r m z);
+        }
+
+    module _ (fail₂ u₂ q₂ : List ℕ) (t₂ : ℕ) (raised : Raised s (owners s) fail u₁ q₁ 0 t fail₂ u₂ q₂ t₂ (literals s) t₂) where
+      pub fell-keeps : setOf u ⊆ setOf u₂
+      fell-keeps c x = raised .grown .keeps c (keeps c x)
+
+      pub fell-upper : Upper s (a .known) (a .before) fail₂ u₂
+      unfolding aimU
+      fell-upper =
+          let done = raised .carried .each aimU again in
+          record {
+            is =
+                grown-U s (a .known) good (a .before) fail₂ u₂ (raised .ready) (done .inside) (growing-counts done) (λ c x. fell-keeps c (now .given c x));
+            size = done .fits .size;
+            counts = growing-counts done;
+            ready = raised .ready;
+            given = λ c x. fell-keeps c (now .given c x);
+          }

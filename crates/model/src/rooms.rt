@@ -1,0 +1,260 @@
+// Room for the evaluation, by the size of the job: the arrays are cleared in each call, so a small job takes small ones. The contracts
+// cite specs/Output.
+ghost use mathlib.Core.Path.{_≡_};
+ghost use mathlib.Core.Bool.{true};
+ghost use Prim.Native.Nat.{_≤_};
+ghost use lib.ListN.{length, replicate};
+ghost use Rattle.job.specs.Accepted.{WellFormed};
+ghost use Rattle.job.specs.Format.{claims};
+ghost use Rattle.model.specs.Output.{knownOutput};
+ghost use Rattle.model.specs.Rooms.{Within};
+ghost use Rattle.model.specs.Rounds.{Unused};
+use crate::alternate;
+use crate::occurrences;
+use crate::verdicts;
+use job::format;
+
+// The evaluation, in tables that nothing was done with yet.
+fn evaluate_in(
+    job: &[u8],
+    known: &[u8],
+    start: &mut [u16],
+    occ: &mut [u16],
+    tail: &mut [u16],
+    need: &mut [u16],
+    fail: &mut [u16],
+    k: &mut [u8],
+    u: &mut [u8],
+    queue: &mut [u16],
+    list: &mut [u16],
+    out: &mut [u8],
+)
+    requires { ⌜ WellFormed (now job) ⌝ }
+    requires { ⌜ Unused (now job) (now known) (now start) (now occ) (now tail) (now need) (now fail) (now k) (now u) (now queue) (now list) ⌝ }
+    requires { ⌜ claims (now job) ≤ length (now out) ⌝ }
+    ensures { λ r. ⌜ now (out .exit) ≡ knownOutput (now (job .entry)) (now (known .entry)) (now (out .entry)) ⌝ }
+{
+    occurrences::prepare(job, known, start, occ, tail, need, fail);
+    alternate::alternate(job, known, start, occ, tail, need, fail, k, u, queue, list);
+    verdicts::write(k, u, out);
+}
+
+// Arrays of zeros for a tiny job: for keys (one more than it can have), positions, rules and claims.
+fn tiny_keys() -> [u16; 33]
+    ensures { λ r. ⌜ r ≡ replicate 33 0 ⌝ }
+{
+    [0u16; 33]
+}
+
+fn tiny_positions() -> [u16; 64]
+    ensures { λ r. ⌜ r ≡ replicate 64 0 ⌝ }
+{
+    [0u16; 64]
+}
+
+fn tiny_rules() -> [u16; 24]
+    ensures { λ r. ⌜ r ≡ replicate 24 0 ⌝ }
+{
+    [0u16; 24]
+}
+
+fn tiny_claims() -> [u8; 16]
+    ensures { λ r. ⌜ r ≡ replicate 16 0 ⌝ }
+{
+    [0u8; 16]
+}
+
+// The evaluation of a job with at most 16 claims, 24 rules and 64 literals.
+fn evaluate_tiny(job: &[u8], known: &[u8], out: &mut [u8])
+    requires { ⌜ WellFormed (now job) ⌝ }
+    requires { ⌜ (Within (now job) 16 24 64) × (length (now known) ≤ claims (now job)) × (claims (now job) ≤ length (now out)) ⌝ }
+    ensures { λ r. ⌜ now (out .exit) ≡ knownOutput (now (job .entry)) (now (known .entry)) (now (out .entry)) ⌝ }
+{
+    let n = format::claim_count(job);
+    let mut start = tiny_keys();
+    let mut occ = tiny_positions();
+    let mut tail = tiny_rules();
+    let mut need = tiny_rules();
+    let mut fail = tiny_rules();
+    let mut k = tiny_claims();
+    let mut u = tiny_claims();
+    let mut queue = tiny_keys();
+    let mut list = tiny_keys();
+    evaluate_in(
+        job,
+        known,
+        &mut start[..],
+        &mut occ[..],
+        &mut tail[..],
+        &mut need[..],
+        &mut fail[..],
+        &mut k[..n],
+        &mut u[..n],
+        &mut queue[..],
+        &mut list[..],
+        out,
+    );
+}
+
+// The same for a middle one.
+fn middle_keys() -> [u16; 2049]
+    ensures { λ r. ⌜ r ≡ replicate 2049 0 ⌝ }
+{
+    [0u16; 2049]
+}
+
+fn middle_positions() -> [u16; 4096]
+    ensures { λ r. ⌜ r ≡ replicate 4096 0 ⌝ }
+{
+    [0u16; 4096]
+}
+
+fn middle_rules() -> [u16; 1536]
+    ensures { λ r. ⌜ r ≡ replicate 1536 0 ⌝ }
+{
+    [0u16; 1536]
+}
+
+fn middle_claims() -> [u8; 1024]
+    ensures { λ r. ⌜ r ≡ replicate 1024 0 ⌝ }
+{
+    [0u8; 1024]
+}
+
+// The evaluation of a job with at most 1,024 claims, 1,536 rules and 4,096 literals.
+fn evaluate_middle(job: &[u8], known: &[u8], out: &mut [u8])
+    requires { ⌜ WellFormed (now job) ⌝ }
+    requires { ⌜ (Within (now job) 1024 1536 4096) × (length (now known) ≤ claims (now job)) × (claims (now job) ≤ length (now out)) ⌝ }
+    ensures { λ r. ⌜ now (out .exit) ≡ knownOutput (now (job .entry)) (now (known .entry)) (now (out .entry)) ⌝ }
+{
+    let n = format::claim_count(job);
+    let mut start = middle_keys();
+    let mut occ = middle_positions();
+    let mut tail = middle_rules();
+    let mut need = middle_rules();
+    let mut fail = middle_rules();
+    let mut k = middle_claims();
+    let mut u = middle_claims();
+    let mut queue = middle_keys();
+    let mut list = middle_keys();
+    evaluate_in(
+        job,
+        known,
+        &mut start[..],
+        &mut occ[..],
+        &mut tail[..],
+        &mut need[..],
+        &mut fail[..],
+        &mut k[..n],
+        &mut u[..n],
+        &mut queue[..],
+        &mut list[..],
+        out,
+    );
+}
+
+// The same for any.
+fn large_keys() -> [u16; 8193]
+    ensures { λ r. ⌜ r ≡ replicate 8193 0 ⌝ }
+{
+    [0u16; 8193]
+}
+
+fn large_positions() -> [u16; 16384]
+    ensures { λ r. ⌜ r ≡ replicate 16384 0 ⌝ }
+{
+    [0u16; 16384]
+}
+
+fn large_rules() -> [u16; 6144]
+    ensures { λ r. ⌜ r ≡ replicate 6144 0 ⌝ }
+{
+    [0u16; 6144]
+}
+
+fn large_claims() -> [u8; 4096]
+    ensures { λ r. ⌜ r ≡ replicate 4096 0 ⌝ }
+{
+    [0u8; 4096]
+}
+
+// The evaluation of a job with at most 4,096 claims, 6,144 rules and 16,384 literals.
+fn evaluate_large(job: &[u8], known: &[u8], out: &mut [u8])
+    requires { ⌜ WellFormed (now job) ⌝ }
+    requires { ⌜ (Within (now job) 4096 6144 16384) × (length (now known) ≤ claims (now job)) × (claims (now job) ≤ length (now out)) ⌝ }
+    ensures { λ r. ⌜ now (out .exit) ≡ knownOutput (now (job .entry)) (now (known .entry)) (now (out .entry)) ⌝ }
+{
+    let n = format::claim_count(job);
+    let mut start = large_keys();
+    let mut occ = large_positions();
+    let mut tail = large_rules();
+    let mut need = large_rules();
+    let mut fail = large_rules();
+    let mut k = large_claims();
+    let mut u = large_claims();
+    let mut queue = large_keys();
+    let mut list = large_keys();
+    evaluate_in(
+        job,
+        known,
+        &mut start[..],
+        &mut occ[..],
+        &mut tail[..],
+        &mut need[..],
+        &mut fail[..],
+        &mut k[..n],
+        &mut u[..n],
+        &mut queue[..],
+        &mut list[..],
+        out,
+    );
+}
+
+// Whether a job has at most so many claims, rules and literals.
+fn fits(job: &[u8], claims: usize, rules: usize, literals: usize) -> bool
+    requires { ⌜ WellFormed (now job) ⌝ }
+    ensures { λ r. ⌜ (r ≡ true → Within (now (job .entry)) claims rules literals) ⌝ }
+{
+    if claims < format::claim_count(job) {
+        return false;
+    }
+    if rules < format::rule_count(job) {
+        return false;
+    }
+    format::literal_count(job) <= literals
+}
+
+// The evaluation of a job that is not tiny.
+fn evaluate_wide(job: &[u8], known: &[u8], out: &mut [u8])
+    requires { ⌜ WellFormed (now job) ⌝ }
+    requires { ⌜ (length (now known) ≤ claims (now job)) × (claims (now job) ≤ length (now out)) ⌝ }
+    ensures { λ r. ⌜ now (out .exit) ≡ knownOutput (now (job .entry)) (now (known .entry)) (now (out .entry)) ⌝ }
+{
+    if fits(job, 1024, 1536, 4096) {
+        evaluate_middle(job, known, out);
+    } else {
+        evaluate_large(job, known, out);
+    }
+}
+
+// The evaluation. What is not tiny is left to one function, called from several places: then the compiler gives it a frame of its own,
+// and a tiny job doesn't touch the pages of a large one.
+pub fn evaluate_given(job: &[u8], known: &[u8], out: &mut [u8])
+    requires { ⌜ WellFormed (now job) ⌝ }
+    requires { ⌜ (length (now known) ≤ claims (now job)) × (claims (now job) ≤ length (now out)) ⌝ }
+    ensures { λ r. ⌜ now (out .exit) ≡ knownOutput (now (job .entry)) (now (known .entry)) (now (out .entry)) ⌝ }
+{
+    if 16 < format::claim_count(job) {
+        evaluate_wide(job, known, out);
+        return;
+    }
+    if 24 < format::rule_count(job) {
+        evaluate_wide(job, known, out);
+        return;
+    }
+    if 64 < format::literal_count(job) {
+        evaluate_wide(job, known, out);
+        return;
+    }
+    evaluate_tiny(job, known, out);
+}
