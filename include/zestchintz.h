@@ -63,6 +63,9 @@ uint64_t zestchintz_check(const uint8_t *job, size_t job_length);
  * A refusal is one of numbers 1 to 8, as zestchintz_check gives it, or 13 where
  * `verdicts` has fewer bytes than there are claims; the place is then the
  * number of bytes needed.  A refused call writes nothing.
+ *
+ * Nothing is allocated.  A call takes up to 128 KB of stack, which a thread with
+ * a small one must have.
  */
 uint64_t zestchintz_evaluate(const uint8_t *job, size_t job_length,
                              uint8_t *verdicts, size_t verdicts_length);

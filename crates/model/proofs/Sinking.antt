@@ -3,7 +3,7 @@
 --   sunk-skip, -step, -next     a key's positions: past those of others, one that fails, and on to the next key
 --   sunk-most, -room, -top      what a step asks for; sunk-end   all keys are done
 --   sunk-fewer                  the set has no more claims than before
---   Failing, failing-..         the places of one key, as `lift` walks them
+--   Failing, failing-..         the places of one key, as `fall` walks them
 use Prim.Native.Nat.{ℕ, _+_, _-_, _<_, _≤_}
 use mathlib.Core.Path.{_≡_, refl, sym, _∙_, subst, subst⁻¹}
 use mathlib.Core.Bool.{false}

@@ -54,7 +54,7 @@ fn owe(
 }
 
 // The key at place i of the list fails: all positions that have it do. How many keys the list then has.
-fn lift(
+fn fall(
     job: &[u8],
     start: &[u16],
     occ: &[u16],
@@ -101,7 +101,7 @@ pub fn sink(
     let mut i = 0;
     let mut top = bottom;
     while i < top {
-        top = lift(job, start, occ, k, fail, u, list, i, top);
+        top = fall(job, start, occ, k, fail, u, list, i, top);
         i += 1;
     }
     top

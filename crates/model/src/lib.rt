@@ -1,4 +1,5 @@
-// The evaluation of a job: its well-founded model (crate semantics), computed.
+// The evaluation of a job: its well-founded model (crate semantics), computed. The contracts cite specs/: Output (what evaluation ensures);
+// Positions, Counters and Doubts (counters, how a D grows and how U shrinks), Rounds (the alternation).
 mod alternate;
 mod derive;
 mod doubt;

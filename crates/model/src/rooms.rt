@@ -14,6 +14,31 @@ use crate::occurrences;
 use crate::verdicts;
 use job::format;
 
+// The rooms: at most so many claims, rules and positions (literals), and one more than there are keys.
+const TINY_CLAIMS: usize = 16;
+
+const TINY_RULES: usize = 24;
+
+const TINY_POSITIONS: usize = 64;
+
+const TINY_KEYS: usize = 33;
+
+const MIDDLE_CLAIMS: usize = 1024;
+
+const MIDDLE_RULES: usize = 1536;
+
+const MIDDLE_POSITIONS: usize = 4096;
+
+const MIDDLE_KEYS: usize = 2049;
+
+const LARGE_CLAIMS: usize = 4096;
+
+const LARGE_RULES: usize = 6144;
+
+const LARGE_POSITIONS: usize = 16384;
+
+const LARGE_KEYS: usize = 8193;
+
 // The evaluation, in tables that nothing was done with yet.
 fn evaluate_in(
     job: &[u8],
@@ -40,28 +65,28 @@ fn evaluate_in(
 }
 
 // Arrays of zeros for a tiny job: for keys (one more than it can have), positions, rules and claims.
-fn tiny_keys() -> [u16; 33]
+fn tiny_keys() -> [u16; TINY_KEYS]
     ensures { λ r. ⌜ r ≡ replicate 33 0 ⌝ }
 {
-    [0u16; 33]
+    [0u16; TINY_KEYS]
 }
 
-fn tiny_positions() -> [u16; 64]
+fn tiny_positions() -> [u16; TINY_POSITIONS]
     ensures { λ r. ⌜ r ≡ replicate 64 0 ⌝ }
 {
-    [0u16; 64]
+    [0u16; TINY_POSITIONS]
 }
 
-fn tiny_rules() -> [u16; 24]
+fn tiny_rules() -> [u16; TINY_RULES]
     ensures { λ r. ⌜ r ≡ replicate 24 0 ⌝ }
 {
-    [0u16; 24]
+    [0u16; TINY_RULES]
 }
 
-fn tiny_claims() -> [u8; 16]
+fn tiny_claims() -> [u8; TINY_CLAIMS]
     ensures { λ r. ⌜ r ≡ replicate 16 0 ⌝ }
 {
-    [0u8; 16]
+    [0u8; TINY_CLAIMS]
 }
 
 // The evaluation of a job with at most 16 claims, 24 rules and 64 literals.
@@ -97,28 +122,28 @@ fn evaluate_tiny(job: &[u8], known: &[u8], out: &mut [u8])
 }
 
 // The same for a middle one.
-fn middle_keys() -> [u16; 2049]
+fn middle_keys() -> [u16; MIDDLE_KEYS]
     ensures { λ r. ⌜ r ≡ replicate 2049 0 ⌝ }
 {
-    [0u16; 2049]
+    [0u16; MIDDLE_KEYS]
 }
 
-fn middle_positions() -> [u16; 4096]
+fn middle_positions() -> [u16; MIDDLE_POSITIONS]
     ensures { λ r. ⌜ r ≡ replicate 4096 0 ⌝ }
 {
-    [0u16; 4096]
+    [0u16; MIDDLE_POSITIONS]
 }
 
-fn middle_rules() -> [u16; 1536]
+fn middle_rules() -> [u16; MIDDLE_RULES]
     ensures { λ r. ⌜ r ≡ replicate 1536 0 ⌝ }
 {
-    [0u16; 1536]
+    [0u16; MIDDLE_RULES]
 }
 
-fn middle_claims() -> [u8; 1024]
+fn middle_claims() -> [u8; MIDDLE_CLAIMS]
     ensures { λ r. ⌜ r ≡ replicate 1024 0 ⌝ }
 {
-    [0u8; 1024]
+    [0u8; MIDDLE_CLAIMS]
 }
 
 // The evaluation of a job with at most 1,024 claims, 1,536 rules and 4,096 literals.
@@ -154,28 +179,28 @@ fn evaluate_middle(job: &[u8], known: &[u8], out: &mut [u8])
 }
 
 // The same for any.
-fn large_keys() -> [u16; 8193]
+fn large_keys() -> [u16; LARGE_KEYS]
     ensures { λ r. ⌜ r ≡ replicate 8193 0 ⌝ }
 {
-    [0u16; 8193]
+    [0u16; LARGE_KEYS]
 }
 
-fn large_positions() -> [u16; 16384]
+fn large_positions() -> [u16; LARGE_POSITIONS]
     ensures { λ r. ⌜ r ≡ replicate 16384 0 ⌝ }
 {
-    [0u16; 16384]
+    [0u16; LARGE_POSITIONS]
 }
 
-fn large_rules() -> [u16; 6144]
+fn large_rules() -> [u16; LARGE_RULES]
     ensures { λ r. ⌜ r ≡ replicate 6144 0 ⌝ }
 {
-    [0u16; 6144]
+    [0u16; LARGE_RULES]
 }
 
-fn large_claims() -> [u8; 4096]
+fn large_claims() -> [u8; LARGE_CLAIMS]
     ensures { λ r. ⌜ r ≡ replicate 4096 0 ⌝ }
 {
-    [0u8; 4096]
+    [0u8; LARGE_CLAIMS]
 }
 
 // The evaluation of a job with at most 4,096 claims, 6,144 rules and 16,384 literals.
@@ -230,7 +255,7 @@ fn evaluate_wide(job: &[u8], known: &[u8], out: &mut [u8])
     requires { ⌜ (length (now known) ≤ claims (now job)) × (claims (now job) ≤ length (now out)) ⌝ }
     ensures { λ r. ⌜ now (out .exit) ≡ knownOutput (now (job .entry)) (now (known .entry)) (now (out .entry)) ⌝ }
 {
-    if fits(job, 1024, 1536, 4096) {
+    if fits(job, MIDDLE_CLAIMS, MIDDLE_RULES, MIDDLE_POSITIONS) {
         evaluate_middle(job, known, out);
     } else {
         evaluate_large(job, known, out);
@@ -244,15 +269,15 @@ pub fn evaluate_given(job: &[u8], known: &[u8], out: &mut [u8])
     requires { ⌜ (length (now known) ≤ claims (now job)) × (claims (now job) ≤ length (now out)) ⌝ }
     ensures { λ r. ⌜ now (out .exit) ≡ knownOutput (now (job .entry)) (now (known .entry)) (now (out .entry)) ⌝ }
 {
-    if 16 < format::claim_count(job) {
+    if TINY_CLAIMS < format::claim_count(job) {
         evaluate_wide(job, known, out);
         return;
     }
-    if 24 < format::rule_count(job) {
+    if TINY_RULES < format::rule_count(job) {
         evaluate_wide(job, known, out);
         return;
     }
-    if 64 < format::literal_count(job) {
+    if TINY_POSITIONS < format::literal_count(job) {
         evaluate_wide(job, known, out);
         return;
     }

@@ -22,8 +22,8 @@ abbrev μ-loop : tie.MeasureT-loop
 loop-holds : tie.Need-loop-holds Inv-loop μ-loop
 loop-holds c = (omega arith, sunk-start _ _ _ _ _ _ _ _ (c .before .before .before .before .before .before .before .pre .1 .1), refl, refl, refl)
 
-lift-requires : tie.Need-lift-requires Inv-loop μ-loop
-lift-requires c κs =
+fall-requires : tie.Need-fall-requires Inv-loop μ-loop
+fall-requires c κs =
     let l = c .before .before .before .before in
     let start = l .before .before .before .before .before .before .before .before .pre in
     (start .0, ((start .1 .0 .0, start .1 .0 .1, omega arith), l .loop .inv .1 .carried .some))
@@ -40,13 +40,13 @@ loop-less c =
 
 loop-again : tie.Need-loop-again Inv-loop μ-loop
 loop-again c =
-    let lift = c .before .before .before .before .before .before .lift in
+    let fall = c .before .before .before .before .before .before .fall in
     let l = c .before .before .before .before .before .before .before .before .before .before .before .loop in (
-      omega (arith, lift .ensures .0),
-      sunk-trans _ _ _ _ _ _ _ _ _ _ _ _ _ _ _ _ _ _ _ (l .inv .1) (lift .ensures .1),
-      lift .kept .1 .1 .1 .1 .0 ∙ l .inv .2,
-      lift .kept .1 .1 .1 .1 .1 .0 ∙ l .inv .3,
-      lift .kept .1 .1 .1 .1 .1 .1 .0 ∙ l .inv .4,
+      omega (arith, fall .ensures .0),
+      sunk-trans _ _ _ _ _ _ _ _ _ _ _ _ _ _ _ _ _ _ _ (l .inv .1) (fall .ensures .1),
+      fall .kept .1 .1 .1 .1 .0 ∙ l .inv .2,
+      fall .kept .1 .1 .1 .1 .1 .0 ∙ l .inv .3,
+      fall .kept .1 .1 .1 .1 .1 .1 .0 ∙ l .inv .4,
     )
 
 same-length : tie.Need-same-length Inv-loop μ-loop
@@ -68,7 +68,7 @@ sink-spec =
     Inv-loop
     μ-loop
     loop-holds
-    lift-requires
+    fall-requires
     add-i
     loop-less
     loop-again

@@ -1,4 +1,4 @@
--- `model::doubt::lift` meets its contract. The loop's invariant: of the key's places those before `j` have failed. The measure is what is left of them. Assumes nothing.
+-- `model::doubt::fall` meets its contract. The loop's invariant: of the key's places those before `j` have failed. The measure is what is left of them. Assumes nothing.
 use Prim.Native.Nat.{ℕ, _+_, _-_, _<_}
 use mathlib.Core.Path.{_≡_, refl, _∙_, subst}
 use native.Mathlib.Omega.{arith}
@@ -6,8 +6,8 @@ use lib.ListN.{length}
 use Rattle.model.specs.Positions.{startOf}
 use Rattle.model.proofs.Queues.{queue-top}
 use Rattle.model.proofs.Sinking.{Failing, failing-start, failing-most, failing-end, failing-rule, failing-few, failing-room, failing-step}
-use Rattle.model.proofs.doubt.lift.Statement.{statement}
-use Rattle.model.proofs.doubt.lift.Tie as tie
+use Rattle.model.proofs.doubt.fall.Statement.{statement}
+use Rattle.model.proofs.doubt.fall.Tie as tie
 
 abbrev Inv-loop : tie.InvT-loop
 Inv-loop job start occ k fail₀ u₀ list₀ i bottom key end j₀ top₀ fail u list j top =
@@ -156,8 +156,8 @@ returns c =
     let start = c .before .before .before .before .before .before .before .before .before .before .before .before .before .before .before .pre in
     (l .inv .4 .inside, failing-end _ _ _ _ _ _ _ _ _ (start .0) (start .1 .0 .0) _ _ _ _ _ _ (l .inv .4) (omega (arith, l .inv .3, c .loop-test .left)))
 
-pub lift-spec : {M : Type 1} → statement M
-lift-spec =
+pub fall-spec : {M : Type 1} → statement M
+fall-spec =
     tie.close
     (tie.spec
     Inv-loop
