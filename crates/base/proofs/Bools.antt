@@ -10,6 +10,10 @@ is b e = subst⁻¹ T e tt
 pub is-not : (b : Bool) → b ≡ false → T b → ⊥
 is-not b e t = subst T e t
 
+pub is-false : (b : Bool) → (T b → ⊥) → b ≡ false
+is-false true n = absurd (n tt)
+is-false false n = refl
+
 pub is-true : (b : Bool) → T b → b ≡ true
 is-true true t = refl
 is-true false t = absurd t

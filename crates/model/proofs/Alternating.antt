@@ -6,7 +6,7 @@
 --   poised-less   U has lost some claim
 use Prim.Native.Nat.{ℕ, _+_, _*_, _/_, _<_, _≤_}
 use mathlib.Core.Path.{_≡_, refl, sym, _∙_, ap, subst, subst⁻¹, fun-ext}
-use mathlib.Core.Bool.{Bool, true, false, not, _&&_, _||_}
+use mathlib.Core.Bool.{Bool, true, false, not, _&&_, _||_, and-not-self}
 use mathlib.Core.List.{List}
 use mathlib.Core.Logic.{_⊎_, inl, inr, ⊎-elim, by-cases}
 use native.Mathlib.Omega.{arith}
@@ -133,10 +133,6 @@ module _ (s g : List ℕ) (K₀ : Claims) (good : WellFormed s) (need fail k u q
             (D (givenProgram s g) (setOf u′)) (λ c v. D-antitone (givenProgram s g) (setOf u) (setOf u′) (shrunk .fewer) c (end .inside c v)) (closed-need s g good (setOf u′));
         ready = raised .ready;
         given = λ c x. raised .grown .keeps c (now .given c x);
-        joined = λ c. shrunk .plain c ∙ go (setOf k′ c);
+        joined = λ c. shrunk .plain c ∙ sym (and-not-self (setOf k′ c));
         kept = λ c v. v;
       }
-    where
-      go : (x : Bool) → false ≡ (x && not x)
-      go true = refl
-      go false = refl

@@ -5,7 +5,7 @@
 --   falling-owe             a position fails: its rule counts it
 --   falling-due             other positions that are pending, but for none of the job's
 use Prim.Native.Nat.{ℕ, _+_, _*_, _<_}
-use mathlib.Core.Path.{_≡_, refl, sym, _∙_, ap, ap₂, subst, subst⁻¹}
+use mathlib.Core.Path.{_≡_, sym, _∙_, ap, ap₂, subst, subst⁻¹}
 use mathlib.Core.Bool.{Bool, true, false, not, _&&_, and-false}
 use mathlib.Core.List.{List}
 use mathlib.Core.Logic.{by-cases}
@@ -14,7 +14,7 @@ use native.Mathlib.Decide.{ℕ-discrete}
 use lib.Dec.{T}
 use lib.ListN.{length, getD, set, length-set}
 use Rattle.base.specs.Sets.{Claims}
-use Rattle.base.proofs.Bools.{is}
+use Rattle.base.proofs.Bools.{is, is-false}
 use Rattle.job.specs.Accepted.{WellFormed}
 use Rattle.job.specs.Format.{claims, rules, literals, headAt}
 use Rattle.model.specs.Passes.{setOf}
@@ -38,11 +38,7 @@ module _ {s : List ℕ} {b : Stand} {K : Claims} {own cnt u q : List ℕ} {i x t
   -- claim c is in the set
   module _ (c : ℕ) (l : c < claims s) (old : setOf u c ≡ true) where
     pub falling-unseen : seen q t (2 * c) ≡ false
-    falling-unseen = go (seen q t (2 * c)) refl
-      where
-        go : (b : Bool) → seen q t (2 * c) ≡ b → b ≡ false
-        go false e = refl
-        go true e = absurd (now .plain c (is (seen q t (2 * c)) e) (is (setOf u c) old))
+    falling-unseen = is-false (seen q t (2 * c)) (λ v. now .plain c v (is (setOf u c) old))
 
     pub falling-room : t < length q
     falling-room = omega (arith, queue-room (now .queue) (2 * c) (omega arith) falling-unseen, now .queue .long)

@@ -6,7 +6,7 @@
 --   growing-walk, -step, -next   a chain from its last position down, and on to the next key
 use Prim.Native.Nat.{ℕ, _+_, _*_, _-_, _<_, _≤_}
 use mathlib.Core.Path.{_≡_, refl, sym, _∙_, ap, ap₂, subst, subst⁻¹}
-use mathlib.Core.Bool.{Bool, true, false, not, cond, _||_}
+use mathlib.Core.Bool.{Bool, true, false, not, cond, _||_, or-true}
 use mathlib.Core.List.{List}
 use mathlib.Core.Logic.{by-cases}
 use native.Mathlib.Omega.{arith}
@@ -27,10 +27,6 @@ use Rattle.model.proofs.Counting.{counts-same, counts-some, counts-pay}
 use Rattle.model.proofs.Lacking.{within-one, within-most}
 use Rattle.model.proofs.Positions.{lacking-wider, lacking-plain, lacking-same, lacking-held}
 use Rattle.model.proofs.Queues.{seen-other, pending-skip, pending-here, pending-gone, pending-other, pending-this, seen-at}
-
-or-true : (b : Bool) → (b || true) ≡ true
-or-true true = refl
-or-true false = refl
 
 module _ (s : List ℕ) (a : Aim) (own cnt w q : List ℕ) (i x t : ℕ) (good : WellFormed s) (owned : Owned s own) (now : Growing s a own cnt w q i x t) where
   due : ℕ → Bool

@@ -1,12 +1,13 @@
 -- A D by counters at its start and at its end (specs/Counters: Growing). Assumes nothing.
 --   growing-counts   all keys are taken: what the counters count
 --   growing-from     the queue is empty
+--   idle-in          a claim whose rule counts nothing may join
 --   growing-joins    some claims joined before any key was taken
 --   growing-lost     S has lost claims, whose negations are on the queue
 --   grown-K, grown-U where every key is taken, the set is D(S): as K, and as U
 use Prim.Native.Nat.{ℕ, _+_, _*_, _<_, _≤_}
 use mathlib.Core.Path.{_≡_, refl, sym, _∙_, ap, subst, fun-ext}
-use mathlib.Core.Bool.{Bool, true, false, not, _&&_, _||_}
+use mathlib.Core.Bool.{Bool, true, false, not, _&&_, _||_, or-false}
 use mathlib.Core.List.{List}
 use native.Mathlib.Omega.{arith}
 use lib.Dec.{T, T-not}
@@ -22,7 +23,7 @@ use Rattle.semantics.specs.Model.{holds, D}
 use Rattle.model.specs.Passes.{setOf, givenProgram}
 use Rattle.model.specs.Positions.{keyOf, keyAt, keys, owners, Owned, Counts, needBase, failBase}
 use Rattle.model.specs.Queues.{seen, Queue, pending, Joins, none, more}
-use Rattle.model.specs.Counters.{lacking, Aim, Closed, Ready, Growing, Given}
+use Rattle.model.specs.Counters.{lacking, Aim, Closed, Ready, Growing, Given, Idle}
 use Rattle.semantics.proofs.LeastSet.{D-least}
 use Rattle.model.proofs.Counting.{counts-same}
 use Rattle.model.proofs.Lacking.{nothing-lacks}
@@ -30,17 +31,13 @@ use Rattle.model.proofs.Owning.{owners-owned}
 use Rattle.model.proofs.Roles.{covers-need, covers-fail}
 use Rattle.model.proofs.Queues.{seen-none, pending-end, pending-start}
 use Rattle.model.proofs.Beginning.{fits-empty, given-true, given-undefined}
-use Rattle.model.proofs.Growing.{growing-joined}
-
-off : (b : Bool) → (b || false) ≡ b
-off true = refl
-off false = refl
+use Rattle.model.proofs.Growing.{growing-joined, growing-fires}
 
 pub growing-counts :
     {s : List ℕ} {a : Aim} {own cnt w q : List ℕ} {x t : ℕ} → Growing s a own cnt w q t x t → Counts s own cnt (a .base) (lacking s (a .against) (setOf w))
 growing-counts {s} {a} {own} {cnt} {w} {q} {x} {t} now =
     counts-same (λ p. lacking s (a .against) (setOf w) p || pending s q t t x p) (lacking s (a .against) (setOf w))
-    (λ p l. ap (λ (b : Bool). lacking s (a .against) (setOf w) p || b) (pending-end s q t x p) ∙ off (lacking s (a .against) (setOf w) p)) (now .counts)
+    (λ p l. ap (λ (b : Bool). lacking s (a .against) (setOf w) p || b) (pending-end s q t x p) ∙ or-false (lacking s (a .against) (setOf w) p)) (now .counts)
 
 pub growing-from :
     (s : List ℕ) (a : Aim) (own cnt w q : List ℕ) → Counts s own cnt (a .base) (lacking s (a .against) (setOf w)) → length w ≡ claims s
@@ -49,12 +46,22 @@ growing-from s a own cnt w q counts size long inside closed =
     record {
       counts =
           counts-same (lacking s (a .against) (setOf w)) (λ p. lacking s (a .against) (setOf w) p || pending s q 0 0 (literals s) p)
-          (λ p l. sym (ap (λ (b : Bool). lacking s (a .against) (setOf w) p || b) (pending-end s q 0 (literals s) p) ∙ off (lacking s (a .against) (setOf w) p))) counts;
+          (λ p l. sym (ap (λ (b : Bool). lacking s (a .against) (setOf w) p || b) (pending-end s q 0 (literals s) p) ∙ or-false (lacking s (a .against) (setOf w) p))) counts;
       fits = fits-empty (claims s) w q size long;
       negated = λ c u. absurd (is-not (seen q 0 (2 * c + 1)) (seen-none q (2 * c + 1)) u);
       inside = inside;
       closed = closed;
     }
+
+-- the heads of rules that count nothing are claims, and where the claims that join are
+pub idle-in :
+    (s : List ℕ) (a : Aim) (cnt w q : List ℕ) → WellFormed s → Growing s a (owners s) cnt w q 0 (literals s) 0 → (c : ℕ) → Idle s cnt c
+    → (c < claims s) × T (a .most c)
+idle-in s a cnt w q good now c x = (
+  subst (λ (d : ℕ). d < claims s) (x .head) (good .head (x .by) (x .below)),
+  subst (λ (d : ℕ). T (a .most d)) (x .head)
+      (growing-fires s a (owners s) cnt w q 0 (literals s) 0 good (owners-owned s good) now (x .by) (x .below) (x .none)),
+)
 
 pub growing-joins :
     {s : List ℕ} {a : Aim} {own cnt w q : List ℕ} {t : ℕ} (ok : ℕ → Type 0) → WellFormed s → Owned s own → ((c : ℕ) → ok c → (c < claims s) × T (a .most c))

@@ -12,7 +12,7 @@ use native.Mathlib.Decide.{ℕ-discrete}
 use lib.Dec.{T}
 use lib.ListN.{length, getD, set, length-set}
 use lib.Seq.{getD-set-other}
-use Rattle.base.proofs.Bools.{is, is-not, is-true}
+use Rattle.base.proofs.Bools.{is, is-not, is-true, is-false}
 use Rattle.model.specs.Passes.{setOf}
 use Rattle.model.specs.Queues.{seen, Joined, Joins, none, more, Fits, Grown}
 use Rattle.model.proofs.Bytes.{set-there, set-same, set-keeps}
@@ -21,11 +21,7 @@ use Rattle.model.proofs.Queues.{seen-other, seen-this, queue-room, queu
 -- claim c is not in the set
 module _ {A : ℕ} {w q : List ℕ} {t : ℕ} (now : Fits A w q t) (c : ℕ) (l : c < A) (new : setOf w c ≡ false) where
   pub fits-unseen : seen q t (2 * c) ≡ false
-  fits-unseen = go (seen q t (2 * c)) refl
-    where
-      go : (b : Bool) → seen q t (2 * c) ≡ b → b ≡ false
-      go false e = refl
-      go true e = absurd (is-not (setOf w c) new (now .plain c (is (seen q t (2 * c)) e)))
+  fits-unseen = is-false (seen q t (2 * c)) (λ v. is-not (setOf w c) new (now .plain c v))
 
   pub fits-room : t < length q
   fits-room = omega (arith, queue-room (now .queue) (2 * c) (omega arith) fits-unseen, now .queue .long)

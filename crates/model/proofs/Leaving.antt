@@ -7,7 +7,7 @@
 --   fallen-front, -fewer          the first keys stay; the set has no more claims
 use Prim.Native.Nat.{ℕ, _+_, _*_, _<_, _≤_}
 use mathlib.Core.Path.{_≡_, refl, sym, _∙_, ap, ap₂, subst, subst⁻¹}
-use mathlib.Core.Bool.{Bool, true, false, not, cond, _||_}
+use mathlib.Core.Bool.{Bool, true, false, not, cond, _||_, or-true}
 use mathlib.Core.List.{List}
 use mathlib.Core.Logic.{⊎-elim, by-cases}
 use native.Mathlib.Omega.{arith}
@@ -24,10 +24,6 @@ use Rattle.model.specs.Queues.{seen}
 use Rattle.model.specs.Doubts.{stays, Left, Owed, Fallen}
 use Rattle.model.proofs.Bytes.{set-gone, set-same}
 use Rattle.model.proofs.Queues.{seen-later, seen-other, seen-this, seen-same}
-
-or-true : (b : Bool) → (b || true) ≡ true
-or-true true = refl
-or-true false = refl
 
 module _ (k u : List ℕ) (c : ℕ) where
   pub stays-outside : getD u c 0 ≡ 0 → stays k u c ≡ true

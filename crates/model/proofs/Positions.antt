@@ -1,4 +1,5 @@
 -- Positions and their literals (specs/Counters: lacking). Assumes nothing.
+--   holds-wider              a literal that holds in a smaller set
 --   lacking-..               literals that hold, and those of a claim that joins a set or leaves it
 --   key-plain, key-negated   a literal by its key
 use Prim.Native.Nat.{ℕ, _+_, _*_}
@@ -26,7 +27,7 @@ not-lacking : (b : Bool) → not b ≡ false → T b
 not-lacking true e = tt
 not-lacking false e = absurd (true≢false e)
 
-holds-wider : (S W X : Claims) → W ⊆ X → (l : Literal) → T (holds S W l) → T (holds S X l)
+pub holds-wider : (S W X : Claims) → W ⊆ X → (l : Literal) → T (holds S W l) → T (holds S X l)
 holds-wider S W X h (Plain c) t = h c t
 holds-wider S W X h (Negated c) t = t
 

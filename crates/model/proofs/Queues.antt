@@ -4,7 +4,7 @@
 --   pending-..   a key's positions are walked from the last down; a key is pushed
 use Prim.Native.Nat.{ℕ, zero, suc, _+_, _<_, _≤_}
 use mathlib.Core.Path.{_≡_, refl, sym, _∙_, ap, ap₂, subst, subst⁻¹}
-use mathlib.Core.Bool.{Bool, true, false, not, _&&_, _||_, and-false}
+use mathlib.Core.Bool.{Bool, true, false, not, _&&_, _||_, and-false, and-true}
 use mathlib.Core.List.{List}
 use mathlib.Core.Logic.{_⊎_, ⊎-elim, by-cases}
 use native.Mathlib.Omega.{arith}
@@ -16,7 +16,7 @@ use lib.Dec.{T, ltb, eqb}
 use lib.ListN.{length, getD, set, length-set}
 use lib.Seq.{getD-set-same, getD-set-other}
 use Rattle.base.specs.Sets.{count}
-use Rattle.base.proofs.Bools.{is, is-not, is-true, or-left, or-right, or-cases}
+use Rattle.base.proofs.Bools.{is, is-not, is-true, or-left, or-right, or-cases, is-false}
 use Rattle.base.proofs.Counts.{count-more}
 use Rattle.base.proofs.Sets.{count-empty, count-le, count-less}
 use Rattle.model.specs.Positions.{keyAt}
@@ -52,11 +52,7 @@ module _ (q : List ℕ) where
       (λ r. let p = seen-place t k r in (p .0, omega arith, p .2)) (or-cases (eqb (getD q t 0) k) (seen q t k) s)
 
   pub seen-not : (t k : ℕ) → ((j : ℕ) → j < t → getD q j 0 ≡ k → ⊥) → seen q t k ≡ false
-  seen-not t k f = go (seen q t k) refl
-    where
-      go : (b : Bool) → seen q t k ≡ b → b ≡ false
-      go false e = refl
-      go true e = let p = seen-place t k (is (seen q t k) e) in absurd (f (p .0) (p .1) (p .2))
+  seen-not t k f = is-false (seen q t k) (λ u. let p = seen-place t k u in f (p .0) (p .1) (p .2))
 
   pub seen-small : (t n : ℕ) → ((j : ℕ) → j < t → getD q j 0 < n) → (k : ℕ) → T (seen q t k) → k < n
   unfolding seen
@@ -193,11 +189,7 @@ module _ (s q : List ℕ) (t : ℕ) where
   unfolding pending
   pending-start n p l =
       let b : ltb p n ≡ true = lt-ltb p n l in
-      rw (b, seen-none q (keyAt s p), and-false (eqb (keyAt s p) (getD q 0 0))) (go (seen q t (keyAt s p)))
-    where
-      go : (a : Bool) → (a && true) ≡ a
-      go true = refl
-      go false = refl
+      rw (b, seen-none q (keyAt s p), and-false (eqb (keyAt s p) (getD q 0 0))) (and-true (seen q t (keyAt s p)))
 
   -- key v is pushed
   module _ (v i x : ℕ) (l : i ≤ t) (room : t < length q) where
@@ -228,11 +220,7 @@ module _ (s q : List ℕ) (t : ℕ) where
         rw (z)))
       where
         not-before : (j : ℕ) → j ≤ t → seen q j v ≡ false
-        not-before j m = go (seen q j v) refl
-          where
-            go : (b : Bool) → seen q j v ≡ b → b ≡ false
-            go false f = refl
-            go true f = absurd (is-not (seen q t v) new (seen-later q j t v m (is (seen q j v) f)))
+        not-before j m = is-false (seen q j v) (λ u. is-not (seen q t v) new (seen-later q j t v m u))
 
 -- queues with the same keys at the first places
 pub seen-same : (q r : List ℕ) (t k : ℕ) → ((j : ℕ) → j < t → getD q j 0 ≡ getD r j 0) → seen q t k ≡ seen r t k

@@ -2,6 +2,7 @@
 --   stage-in   what is derived in some steps is in D(S)
 --   again      a claim that a step against K₀ gave, and that is left, comes by a step against K
 --   sunk       what is left is in D(K)
+use Rattle.model.proofs.Positions.{holds-wider}
 use Prim.Native.Nat.{ℕ, zero, suc, _<_}
 use mathlib.Core.Path.{_≡_, subst, subst⁻¹}
 use mathlib.Core.List.{List}
@@ -28,11 +29,6 @@ unfolding iterate
 stage-in P S zero c t = absurd t
 stage-in P S (suc n) c t = D-closed P S c (step-more S S (iterate (step P S) n) (D P S) (λ d u. u) (stage-in P S n) P c t)
 
--- a literal that holds in a smaller set
-holds-in : (S W X : Claims) → W ⊆ X → (x : Literal) → T (holds S W x) → T (holds S X x)
-holds-in S W X f (Plain d) t = f d t
-holds-in S W X f (Negated d) t = t
-
 -- a literal that holds in both of two sets, whose common claims are in a third, and against the second's
 holds-both : (K₀ W K U X : Claims) → ((d : ℕ) → T (W d) → T (U d) → T (X d)) → (x : Literal) → T (holds K₀ W x) → T (holds K U x) → T (holds K X x)
 holds-both K₀ W K U X f (Plain d) t v = f d t v
@@ -52,7 +48,7 @@ module _ (s g : List ℕ) (good : WellFormed s) (K₀ K : Claims) (own cnt₀ cn
           → (p : ℕ) → Within s p r → T (holds K (D P K) (literalAt s (rules s) p))
       still-hold r l e v out f p w =
           let in₀ : W ⊆ setOf u₀ = subst⁻¹ (λ (X : Claims). W ⊆ X) made early in
-          let z₀ : getD cnt₀ r 0 ≡ 0 = nothing-lacks s good K₀ (setOf u₀) owned counts₀ r l e (λ j i. holds-in K₀ W (setOf u₀) in₀ (literalAt s (rules s) j) (f j i)) in
+          let z₀ : getD cnt₀ r 0 ≡ 0 = nothing-lacks s good K₀ (setOf u₀) owned counts₀ r l e (λ j i. holds-wider K₀ W (setOf u₀) in₀ (literalAt s (rules s) j) (f j i)) in
           let now = all-hold s good K (setOf u) owned counts r l (same .kept r l z₀ v out) in
           holds-both K₀ W K (setOf u) (D P K) before (literalAt s (rules s) p) (f p w) (now .1 p w)
 

@@ -5,7 +5,7 @@
 --   fell-growing, -ready, -upper   some claims came back, and U is D(K)
 use Prim.Native.Nat.{ℕ, _*_, _<_, _≤_}
 use mathlib.Core.Path.{_≡_, refl, sym, _∙_, ap, subst}
-use mathlib.Core.Bool.{Bool, true, false, not, _&&_, _||_}
+use mathlib.Core.Bool.{Bool, true, false, not, _&&_, _||_, or-false, and-true}
 use mathlib.Core.List.{List}
 use mathlib.Core.Logic.{_⊎_, ⊎-elim}
 use native.Mathlib.Omega.{arith}
@@ -33,8 +33,7 @@ use Rattle.model.proofs.Owning.{owners-owned}
 use Rattle.model.proofs.Lacking.{nothing-lacks, all-hold}
 use Rattle.model.proofs.Roles.{closed-fail}
 use Rattle.model.proofs.Joining.{joins-grown}
-use Rattle.model.proofs.Growing.{growing-fires}
-use Rattle.model.proofs.Grown.{growing-counts, growing-from, growing-joins, grown-K, grown-U}
+use Rattle.model.proofs.Grown.{growing-counts, growing-from, growing-joins, grown-K, grown-U, idle-in}
 use Rattle.model.proofs.Leaving.{fallen-front}
 use Rattle.model.proofs.Sinking.{sunk-fewer}
 use Rattle.model.proofs.Remaining.{sunk}
@@ -82,11 +81,7 @@ module _ (s g : List ℕ) (K₀ : Claims) (good : WellFormed s) where
     module _ (l : List ℕ) (n : ℕ) (long : keys s ≤ length l) (negations : Negations q t l n) where
       due-in : (x : Literal) → not (holds K₀ (setOf u) x) ≡ (not (holds (setOf k) (setOf u) x) && not (seen l n (keyOf x)))
       unfolding keyOf
-      due-in (Plain c) = rw (negations .plain c) (go (not (setOf u c)))
-        where
-          go : (b : Bool) → b ≡ (b && true)
-          go true = refl
-          go false = refl
+      due-in (Plain c) = rw (negations .plain c) (sym (and-true (not (setOf u c))))
       due-in (Negated c) = rw (negations .negated c, now .joined c) (go (K₀ c) (setOf k c) (now .kept c))
         where
           go : (x y : Bool) → (T x → T y) → not (not x) ≡ (not (not y) && not (y && not x))
@@ -132,11 +127,7 @@ module _ (s g : List ℕ) (K₀ : Claims) (good : WellFormed s) where
         unfolding stand
         counts =
             counts-same (λ p. lacking s (setOf k) (setOf u₁) p && not (pending s l₁ end end (literals s) p)) (lacking s (setOf k) (setOf u₁))
-            (λ p m. ap (λ (b : Bool). lacking s (setOf k) (setOf u₁) p && not b) (pending-end s l₁ end (literals s) p) ∙ on (lacking s (setOf k) (setOf u₁) p)) (last .counts)
-          where
-            on : (b : Bool) → (b && true) ≡ b
-            on true = refl
-            on false = refl
+            (λ p m. ap (λ (b : Bool). lacking s (setOf k) (setOf u₁) p && not b) (pending-end s l₁ end (literals s) p) ∙ and-true (lacking s (setOf k) (setOf u₁) p)) (last .counts)
 
         round : Round (givenProgram s g) K₀ (setOf u) (setOf k)
         round = record { nextU = now .upper .is; nextK = now .is }
@@ -148,11 +139,7 @@ module _ (s g : List ℕ) (K₀ : Claims) (good : WellFormed s) where
         fewer = sunk-fewer s k (owners s) fail u l 0 n fail₁ u₁ l₁ end (literals s) end fell
 
         pub fell-left : (c : ℕ) → setOf u c ≡ (setOf u₁ c || seen l₁ end (2 * c))
-        fell-left c = sym (ap (λ (b : Bool). setOf u c || b) (negations .plain c) ∙ off (setOf u c)) ∙ fell .fallen .left c
-          where
-            off : (b : Bool) → (b || false) ≡ b
-            off true = refl
-            off false = refl
+        fell-left c = sym (ap (λ (b : Bool). setOf u c || b) (negations .plain c) ∙ or-false (setOf u c)) ∙ fell .fallen .left c
 
         -- a rule that counts nothing now counted nothing before
         still : (r : ℕ) → r < rules s → getD fail₁ r 0 ≡ 0 → getD fail r 0 ≡ 0
@@ -192,19 +179,15 @@ module _ (s : List ℕ) (a : Course) (good : WellFormed s) (fail u l : List ℕ)
   unfolding aimU
   first = growing-from s aimU (owners s) fail u q (now .counts) (now .size) long (now .inside) (closed-fail s (a .known) good (a .before) (now .rests))
 
-  -- a claim with a rule that counts nothing
-  idle-in : (c : ℕ) → Idle s fail c → (c < claims s) × T (aimU .most c)
-  idle-in c x = (
-    subst (λ (d : ℕ). d < claims s) (x .head) (good .head (x .by) (x .below)),
-    subst (λ (d : ℕ). T (aimU .most d)) (x .head) (growing-fires s aimU (owners s) fail u q 0 (literals s) 0 good (owners-owned s good) first (x .by) (x .below) (x .none)),
-  )
+  idle : (c : ℕ) → Idle s fail c → (c < claims s) × T (aimU .most c)
+  idle = idle-in s aimU fail u q good first
 
   module _ (u₁ q₁ : List ℕ) (t : ℕ) (recovered : Recovered s fail l end u q u₁ q₁ t) where
     keeps : setOf u ⊆ setOf u₁
-    keeps = joins-grown (Idle s fail) (λ c x. idle-in c x .0) (first .fits) (recovered .joins) .keeps
+    keeps = joins-grown (Idle s fail) (λ c x. idle c x .0) (first .fits) (recovered .joins) .keeps
 
     again : Growing s aimU (owners s) fail u₁ q₁ 0 (literals s) t
-    again = growing-joins (Idle s fail) good (owners-owned s good) idle-in first (recovered .joins)
+    again = growing-joins (Idle s fail) good (owners-owned s good) idle first (recovered .joins)
 
     pub fell-growing : (b : Aim) × Growing s b (owners s) fail u₁ q₁ 0 (literals s) t
     fell-growing = (aimU, again)

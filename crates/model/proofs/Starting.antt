@@ -13,7 +13,7 @@ use borrow.Author.Tests.{lt-ltb, le-ltb}
 use lib.Dec.{T, T-not, not-T, ltb}
 use lib.ListN.{length, getD}
 use Rattle.base.specs.Sets.{Claims, _⊆_, nothing}
-use Rattle.base.proofs.Bools.{is, is-not, is-true}
+use Rattle.base.proofs.Bools.{is, is-not, is-true, is-false}
 use Rattle.job.specs.Job.{claimOf}
 use Rattle.job.specs.Accepted.{WellFormed}
 use Rattle.job.specs.Format.{claims, rules, literals, literalAt}
@@ -35,18 +35,8 @@ use Rattle.model.proofs.Joining.{joins-grown}
 use Rattle.model.proofs.Beginning.{given-byte}
 use Rattle.model.proofs.Steps.{step-true, step-undefined}
 use Rattle.model.proofs.Roles.{closed-need, closed-fail}
-use Rattle.model.proofs.Growing.{growing-fires}
-use Rattle.model.proofs.Grown.{growing-counts, growing-from, growing-joins, growing-lost, grown-U}
+use Rattle.model.proofs.Grown.{growing-counts, growing-from, growing-joins, growing-lost, grown-U, idle-in}
 use Rattle.model.proofs.Rounds.{rising-start}
-
--- the heads of rules that count nothing are claims, and where the claims that join are
-idle-in :
-    (s : List ℕ) (a : Aim) (cnt w q : List ℕ) → WellFormed s → Growing s a (owners s) cnt w q 0 (literals s) 0 → (c : ℕ) → Idle s cnt c
-    → (c < claims s) × T (a .most c)
-idle-in s a cnt w q good now c x = (
-  subst (λ (d : ℕ). d < claims s) (x .head) (good .head (x .by) (x .below)),
-  subst (λ (d : ℕ). T (a .most d)) (x .head) (growing-fires s a (owners s) cnt w q 0 (literals s) 0 good (owners-owned s good) now (x .by) (x .below) (x .none)),
-)
 
 module _ (s g : List ℕ) (good : WellFormed s) (few : length g ≤ claims s) where
   -- U, from nothing
@@ -163,11 +153,7 @@ module _ (s g : List ℕ) (good : WellFormed s) (few : length g ≤ claims s) wh
         unfolding all
         everyone c =
             by-cases (decLt c (claims s)) (λ m. is-true (seen l (length u) (2 * c)) (whole c (omega arith)) ∙ sym (lt-ltb c (claims s) m))
-            (λ n. off (seen l (length u) (2 * c)) (λ v. absurd (n (omega (arith, seen-small l (length u) (2 * length u) (listed .queue .small) (2 * c) v)))) ∙ sym (le-ltb c (claims s) (omega arith)))
-          where
-            off : (b : Bool) → (T b → ⊥) → b ≡ false
-            off true f = absurd (f tt)
-            off false f = refl
+            (λ n. is-false (seen l (length u) (2 * c)) (λ v. absurd (n (omega (arith, seen-small l (length u) (2 * length u) (listed .queue .small) (2 * c) v)))) ∙ sym (le-ltb c (claims s) (omega arith)))
 
         pub start-poised : (fail : List ℕ) → Upper s g nothing fail u → Poised s g nothing need fail k₁ u q₂ t₂
         unfolding aim
