@@ -22,7 +22,7 @@ use Rattle.job.proofs.Accepted.{well-formed}
 use Rattle.job.proofs.Rows.{both, row-no}
 use Rattle.job.proofs.Written.{questions-count}
 use Rattle.table.specs.Layout.{used}
-use Rattle.turns.proofs.Answering.{schedule-low}
+use Rattle.calls.proofs.Answering.{schedule-low}
 use Rattle.listing.specs.Listing.{jobEnd, jobPart, schedulePart, listingCheck, refusalLine, listed, listingIf, listing, roomLength, roomBytes}
 
 pub record AcceptedInput (i : List ℕ) : Type 0 where

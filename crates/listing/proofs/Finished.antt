@@ -28,14 +28,14 @@ use Rattle.table.specs.Questions.{askedBy}
 use Rattle.table.specs.Layout.{answered}
 use Rattle.table.specs.Start.{startWords}
 use Rattle.waiting.specs.Runs.{Rounds, none, round}
-use Rattle.turns.specs.Turn.{turn, runTable}
-use Rattle.turns.specs.Promise.{Fresh, bound}
-use Rattle.turns.proofs.Starting.{start-started}
-use Rattle.turns.proofs.Runs.{Low}
-use Rattle.turns.proofs.Promise.{rounds}
-use Rattle.turns.proofs.Bounds.{bound-is}
-use Rattle.turns.proofs.OnLists.{valid, ok}
-use Rattle.turns.proofs.Histories.{run-append, low-append, low-all}
+use Rattle.turn.specs.Turn.{turn, runTable}
+use Rattle.calls.specs.Promise.{Fresh, bound}
+use Rattle.steps.proofs.Starting.{start-started}
+use Rattle.steps.proofs.Runs.{Low}
+use Rattle.steps.proofs.Promise.{rounds}
+use Rattle.steps.proofs.Bounds.{bound-is}
+use Rattle.calls.proofs.OnLists.{valid, ok}
+use Rattle.calls.proofs.Histories.{run-append, low-append, low-all}
 use Rattle.listing.specs.Finish.{answeredAll, nextWorker, finishTurns, most, Finished}
 use Rattle.listing.proofs.Finishing.{done}
 

@@ -23,15 +23,15 @@ use Rattle.job.specs.Accepted.{WellFormed}
 use Rattle.table.specs.Questions.{askedBy}
 use Rattle.table.specs.Layout.{answered}
 use Rattle.table.specs.Ranges.{InRange}
-use Rattle.turns.specs.Turn.{kindNumber, turn, runTable, runKinds}
-use Rattle.turns.specs.Calls.{counted}
-use Rattle.turns.specs.Ready.{Made}
-use Rattle.turns.specs.Promise.{bound}
-use Rattle.turns.specs.declared.Kind.{Kind}
-use Rattle.turns.proofs.Jobs.{job-ok}
-use Rattle.turns.proofs.Range.{turn-in-range}
-use Rattle.turns.proofs.Lengths.{turn-length}
-use Rattle.turns.proofs.Tallies.{one-more}
+use Rattle.turn.specs.Turn.{kindNumber, turn, runTable, runKinds}
+use Rattle.calls.specs.Calls.{counted}
+use Rattle.turn.specs.Ready.{Made}
+use Rattle.calls.specs.Promise.{bound}
+use Rattle.turn.specs.declared.Kind.{Kind}
+use Rattle.turn.proofs.Jobs.{job-ok}
+use Rattle.turn.proofs.Range.{turn-in-range}
+use Rattle.turn.proofs.Lengths.{turn-length}
+use Rattle.calls.proofs.Tallies.{one-more}
 use Rattle.listing.specs.Finish.{answeredAll, nextWorker, finishTurns, most}
 
 abbrev pub done : Job → List ℕ → ℕ → Bool

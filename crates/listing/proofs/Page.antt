@@ -17,8 +17,8 @@ use Rattle.job.specs.Format.{claims, questions, jobOf}
 use Rattle.job.proofs.Written.{questions-count}
 use Rattle.table.specs.Layout.{used}
 use Rattle.table.specs.Start.{startWords}
-use Rattle.turns.specs.Turn.{runTable, runKinds}
-use Rattle.turns.specs.Calls.{tally}
+use Rattle.turn.specs.Turn.{runTable, runKinds}
+use Rattle.calls.specs.Calls.{tally}
 use Rattle.listing.specs.Text.{lineEnd, claimsWord, questionsWord}
 use Rattle.listing.specs.Listing.{claimLine, questionLines, tallyLine, heading, textOf, played, lastTable, listed}
 use Rattle.listing.proofs.Runs.{Run, run-start, run-more}

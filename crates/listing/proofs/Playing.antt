@@ -14,14 +14,14 @@ use Rattle.job.specs.Format.{workers, jobOf}
 use Rattle.table.specs.Layout.{used}
 use Rattle.table.specs.Ranges.{InRange}
 use Rattle.table.specs.Start.{startWords}
-use Rattle.turns.specs.Turn.{kindNumber, turn, runTable, runKinds}
-use Rattle.turns.specs.declared.Kind.{Kind}
-use Rattle.turns.specs.Calls.{counted, tally}
-use Rattle.turns.proofs.Jobs.{job-ok}
-use Rattle.turns.proofs.Starting.{start-started, started-range}
-use Rattle.turns.proofs.Runs.{Low, made-start, made-run}
-use Rattle.turns.proofs.Histories.{run-append, kinds-append, low-all}
-use Rattle.turns.proofs.Tallies.{tally-append, tally-few}
+use Rattle.turn.specs.Turn.{kindNumber, turn, runTable, runKinds}
+use Rattle.turn.specs.declared.Kind.{Kind}
+use Rattle.calls.specs.Calls.{counted, tally}
+use Rattle.turn.proofs.Jobs.{job-ok}
+use Rattle.steps.proofs.Starting.{start-started, started-range}
+use Rattle.steps.proofs.Runs.{Low, made-start, made-run}
+use Rattle.calls.proofs.Histories.{run-append, kinds-append, low-all}
+use Rattle.calls.proofs.Tallies.{tally-append, tally-few}
 use Rattle.listing.specs.Finish.{finishTurns, most}
 use Rattle.listing.specs.Listing.{played}
 

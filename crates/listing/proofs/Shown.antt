@@ -34,18 +34,18 @@ use Rattle.table.specs.Layout.{used, mark, markOf, answered, answerWord}
 use Rattle.table.specs.Start.{startWords}
 use Rattle.table.specs.Reading.{readingOf}
 use Rattle.table.specs.declared.Reading.the-variants.{Fresh, Open}
-use Rattle.turns.specs.Turn.{runTable}
-use Rattle.turns.specs.Lists.{Complete}
-use Rattle.turns.specs.Promise as P
-use Rattle.turns.specs.Promise.{Asked}
-use Rattle.turns.proofs.Starting.{start-started}
-use Rattle.turns.proofs.Runs.{Low, Made, made-start, made-run}
-use Rattle.turns.proofs.Promise.{only-led, none-open}
-use Rattle.turns.proofs.Named.{led-asked}
-use Rattle.turns.proofs.RulesBehind.{stands-behind}
-use Rattle.turns.proofs.Answers.{complete-mark, mark-complete}
-use Rattle.turns.proofs.OnLists.{valid, ok}
-use Rattle.turns.proofs.Histories.{low-append, low-all}
+use Rattle.turn.specs.Turn.{runTable}
+use Rattle.calls.specs.Lists.{Complete}
+use Rattle.calls.specs.Promise as P
+use Rattle.calls.specs.Promise.{Asked}
+use Rattle.steps.proofs.Starting.{start-started}
+use Rattle.steps.proofs.Runs.{Low, Made, made-start, made-run}
+use Rattle.steps.proofs.Promise.{only-led, none-open}
+use Rattle.calls.proofs.Named.{led-asked}
+use Rattle.calls.proofs.RulesBehind.{stands-behind}
+use Rattle.calls.proofs.Answers.{complete-mark, mark-complete}
+use Rattle.calls.proofs.OnLists.{valid, ok}
+use Rattle.calls.proofs.Histories.{low-append, low-all}
 use Rattle.listing.specs.Text.{blank, lineEnd, claimsWord, questionsWord, refusedWord, nameOf, unopenedName}
 use Rattle.listing.specs.Finish.{finishTurns, most}
 use Rattle.listing.specs.Listing.{jobPart, schedulePart, listingCheck, refusalLine, claimLine, questionLines, tallyLine, heading, textOf, questionLine, played, lastTable, listed, listingIf, listing}

@@ -17,8 +17,8 @@ use Rattle.job.specs.Format.{jobOf}
 use Rattle.table.specs.Questions.{askedBy}
 use Rattle.table.specs.Layout.{answered}
 use Rattle.table.specs.Start.{startWords}
-use Rattle.turns.specs.Turn.{turn, runTable}
-use Rattle.turns.specs.Promise.{Fresh, bound}
+use Rattle.turn.specs.Turn.{turn, runTable}
+use Rattle.calls.specs.Promise.{Fresh, bound}
 
 unfoldable pub answeredAll : Job → List ℕ → Bool
 answeredAll j t = every (λ w. leb (length (askedBy j w)) (answered j t w)) (upto (j .workers))

@@ -35,8 +35,8 @@ use Rattle.table.specs.declared.Reading.{Reading}
 use Rattle.table.specs.Layout.{used, mark, answerWord}
 use Rattle.table.specs.Start.{startWords}
 use Rattle.table.specs.Reading.{readingOf}
-use Rattle.turns.specs.Turn.{runTable, runKinds}
-use Rattle.turns.specs.Calls.{checkSchedule, tally}
+use Rattle.turn.specs.Turn.{runTable, runKinds}
+use Rattle.calls.specs.Calls.{checkSchedule, tally}
 use Rattle.listing.specs.Text.{blank, lineEnd, claimsWord, questionsWord, tallyWord, refusedWord, nameOf}
 use Rattle.listing.specs.Finish.{finishTurns, most}
 

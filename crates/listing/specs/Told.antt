@@ -19,8 +19,8 @@ use Rattle.table.specs.Questions.{claimAsked}
 use Rattle.table.specs.Layout.{mark}
 use Rattle.table.specs.Reading.{readingOf}
 use Rattle.table.specs.declared.Reading.the-variants.{Open}
-use Rattle.turns.specs.Lists.{Complete}
-use Rattle.turns.specs.Promise.{Asked, OthersBehind}
+use Rattle.calls.specs.Lists.{Complete}
+use Rattle.calls.specs.Promise.{Asked, OthersBehind}
 use Rattle.listing.specs.Text.{blank, lineEnd, trueName, falseName, undefinedName, unopenedName}
 use Rattle.listing.specs.Listing.{jobPart, schedulePart, listingCheck, claimLine, questionLines, lastTable, listing}
 

@@ -8,16 +8,15 @@ ghost use Rattle.job.specs.Bytes.{Number};
 ghost use Rattle.job.specs.Format.{workers as workersOf, jobOf};
 ghost use Rattle.table.specs.Questions.{Counted};
 ghost use Rattle.table.specs.Ranges.{InRange};
-ghost use Rattle.turns.specs.Turn.{runTable, runKinds};
-ghost use Rattle.turns.specs.Calls.{counted as countedOf};
-ghost use Rattle.turns.specs.Ready.{Ready};
+ghost use Rattle.turn.specs.Turn.{runTable, runKinds};
+ghost use Rattle.calls.specs.Calls.{counted as countedOf};
+ghost use Rattle.turn.specs.Ready.{Ready};
 ghost use Rattle.listing.specs.Finish.{answeredAll, nextWorker, finishTurns, most};
+use calls::tally;
 use job::ClaimIndex;
 use job::format;
 use table::checks;
 use table::words;
-use turns::tally;
-use turns::turn;
 
 // Whether each worker has answered all its questions.
 fn all_answered(job: &[u8], totals: &[u32; 32], table: &[u32]) -> bool

@@ -4,7 +4,7 @@ ghost use Prim.Native.Nat.{_≤_};
 ghost use lib.ListN.{length};
 ghost use Rattle.job.specs.Rows.{_⨾_};
 ghost use Rattle.job.specs.Checks.{checkJob};
-ghost use Rattle.turns.specs.Calls.{checkSchedule};
+ghost use Rattle.calls.specs.Calls.{checkSchedule};
 ghost use Rattle.listing.specs.Listing.{jobEnd, listingCheck};
 use job::Check;
 use job::bytes;
@@ -51,5 +51,5 @@ fn check_parts(job: &[u8], schedule: &[u8]) -> Check
     } = check {
         return check;
     }
-    turns::calls::check_schedule(job, schedule)
+    calls::schedule::check_schedule(job, schedule)
 }

@@ -6,13 +6,13 @@ ghost use Rattle.job.specs.Accepted.{WellFormed};
 ghost use Rattle.job.specs.Format.{workers as workersOf, jobOf};
 ghost use Rattle.table.specs.Layout.{used};
 ghost use Rattle.table.specs.Start.{startWords};
-ghost use Rattle.turns.specs.Turn.{runTable, runKinds};
-ghost use Rattle.turns.specs.Calls.{tally as tallyOf};
+ghost use Rattle.turn.specs.Turn.{runTable, runKinds};
+ghost use Rattle.calls.specs.Calls.{tally as tallyOf};
 ghost use Rattle.listing.specs.Listing.{mostInput, played};
 use crate::finish;
+use calls::schedule;
 use job::claims;
 use table::start;
-use turns::schedule;
 
 // Starts the table, takes the turns, and gives their tally.
 pub fn play(job: &[u8], named: &[u8], table: &mut [u32]) -> [u64; 8]

@@ -16,7 +16,7 @@ use Rattle.job.specs.Encoding.{encode, Valid}
 use Rattle.job.specs.declared.Check.the-variants.{Accepted}
 use Rattle.job.proofs.Rows.{pass, scan-none, join}
 use Rattle.job.proofs.Encoding.{reading, encoded-well-formed}
-use Rattle.turns.specs.Calls.{checkSchedule}
+use Rattle.calls.specs.Calls.{checkSchedule}
 use Rattle.listing.specs.Listing.{jobEnd, jobPart, schedulePart, mostInput, listingCheck, listingIf, listing, listed, lastTable}
 use Rattle.listing.specs.Told.{Shows}
 use Rattle.listing.proofs.Shown.{told}

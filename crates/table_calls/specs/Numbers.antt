@@ -14,11 +14,11 @@ use Rattle.job.specs.declared.Check.{Check}
 use Rattle.job.specs.declared.Check.the-variants.{Accepted, Refused}
 use Rattle.table.specs.declared.Reading.{Reading}
 use Rattle.table.specs.declared.Reading.the-variants.{Fresh, Open, True, False, Undefined}
-use Rattle.turns.specs.Turn.{kindNumber}
-use Rattle.turns.specs.declared.TurnAnswer.{TurnAnswer}
-use Rattle.turns.specs.declared.TurnAnswer
-use Rattle.turns.specs.declared.ReadAnswer.{ReadAnswer}
-use Rattle.turns.specs.declared.ReadAnswer
+use Rattle.turn.specs.Turn.{kindNumber}
+use Rattle.calls.specs.declared.TurnAnswer.{TurnAnswer}
+use Rattle.calls.specs.declared.TurnAnswer
+use Rattle.calls.specs.declared.ReadAnswer.{ReadAnswer}
+use Rattle.calls.specs.declared.ReadAnswer
 
 unfoldable pub ofRefusal : ℕ → ℕ → ℕ
 ofRefusal number place =

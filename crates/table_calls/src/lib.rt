@@ -1,14 +1,14 @@
 // The table's calls for programs in other languages, so that tests can hold them to an evaluator of other authorship.
-// Thin over the crate turns: each answer becomes one number (specs/Numbers).
+// Thin over the crate calls: each answer becomes one number (specs/Numbers).
 ghost use mathlib.Core.Path.{_≡_};
 ghost use lib.ListN.{length};
-ghost use Rattle.turns.specs.Calls.{startCheck, startTable, turnCheck, turnAnswer, turnTable, runCheck, runAnswer, runLeft, readCheck, readAnswer};
-ghost use Rattle.turns.specs.Turn.{kindNumber};
+ghost use Rattle.calls.specs.Calls.{startCheck, startTable, turnCheck, turnAnswer, turnTable, runCheck, runAnswer, runLeft, readCheck, readAnswer};
+ghost use Rattle.turn.specs.Turn.{kindNumber};
 ghost use Rattle.table_calls.specs.Numbers.{ofRefusal, ofCheck, ofTurn, ofReading, ofRead, copied};
+use calls::ReadAnswer;
+use calls::TurnAnswer;
 use job::Check;
-use turns::Kind;
-use turns::ReadAnswer;
-use turns::TurnAnswer;
+use turn::Kind;
 
 // A refusal in one number: 2^63 + place for number 1, else number · 2^32 + place.
 fn of_refusal(number: u32, place: usize) -> u64
@@ -91,7 +91,7 @@ pub extern "C" fn table_start(job: &[u8], table: &mut [u32]) -> u64
     ensures { λ r. ⌜ r ≡ ofCheck (startCheck (now (job .entry)) (now (table .entry))) ⌝ }
     ensures { λ r. ⌜ now (table .exit) ≡ startTable (startCheck (now (job .entry)) (now (table .entry))) (now (job .entry)) (now (table .entry)) ⌝ }
 {
-    of_check(turns::calls::start(job, table))
+    of_check(calls::start(job, table))
 }
 
 #[no_mangle]
@@ -99,7 +99,7 @@ pub extern "C" fn table_turn(job: &[u8], table: &mut [u32], worker: usize) -> u6
     ensures { λ r. ⌜ r ≡ ofTurn (turnAnswer (turnCheck (now (job .entry)) (now (table .entry)) worker) (now (job .entry)) (now (table .entry)) worker) ⌝ }
     ensures { λ r. ⌜ now (table .exit) ≡ turnTable (turnCheck (now (job .entry)) (now (table .entry)) worker) (now (job .entry)) (now (table .entry)) worker ⌝ }
 {
-    of_turn(turns::calls::turn(job, table, worker))
+    of_turn(calls::turn(job, table, worker))
 }
 
 #[no_mangle]
@@ -113,7 +113,7 @@ pub extern "C" fn table_run(
     ensures { λ r. ⌜ now (table .exit) ≡ runLeft (runCheck (now (job .entry)) (now (table .entry)) (now (schedule .entry))) (now (job .entry)) (now (table .entry)) (now (schedule .entry)) ⌝ }
     ensures { λ r. ⌜ now (tally .exit) ≡ copied (runAnswer (now (job .entry)) (now (table .entry)) (now (schedule .entry)) .tally) (now (tally .entry)) ⌝ }
 {
-    let answer = turns::calls::run(job, table, schedule);
+    let answer = calls::run(job, table, schedule);
     let counts = answer.tally;
     copy_counts(&counts, tally);
     let check = answer.check;
@@ -124,5 +124,5 @@ pub extern "C" fn table_run(
 pub extern "C" fn table_read(job: &[u8], table: &[u32], claim: usize) -> u64
     ensures { λ r. ⌜ r ≡ ofRead (readAnswer (readCheck (now (job .entry)) (now (table .entry)) claim) (now (table .entry)) claim) ⌝ }
 {
-    of_read(turns::calls::read(job, table, claim))
+    of_read(calls::read(job, table, claim))
 }

@@ -1,8 +1,8 @@
 -- `table_calls::table_run` meets its contract. Assumes nothing.
 use mathlib.Core.Path.{_∙_, ap}
 use borrow.Author.Needs.{needs}
-use Rattle.turns.specs.declared.RunAnswer.{RunAnswer}
-use Rattle.turns.specs.Calls.{runAnswer}
+use Rattle.calls.specs.declared.RunAnswer.{RunAnswer}
+use Rattle.calls.specs.Calls.{runAnswer}
 use Rattle.table_calls.specs.Numbers.{ofCheck, copied}
 use Rattle.table_calls.proofs.table_run.Statement.{statement}
 use Rattle.table_calls.proofs.table_run.Tie as tie

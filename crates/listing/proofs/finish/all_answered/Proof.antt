@@ -4,7 +4,7 @@ use mathlib.Core.Path.{_∙_}
 use native.Mathlib.Omega.{arith}
 use Rattle.job.specs.Format.{workers as workersOf, jobOf}
 use Rattle.listing.proofs.Finishing.{Rest, rest-all, rest-next, rest-fails, rest-done}
-use Rattle.turns.proofs.Following.{answered-read}
+use Rattle.turn.proofs.Following.{answered-read}
 use Rattle.listing.proofs.finish.all_answered.Statement.{statement}
 use Rattle.listing.proofs.finish.all_answered.Tie as tie
 

@@ -11,7 +11,7 @@ use Rattle.job.specs.Rows.{_⨾_}
 use Rattle.job.specs.Checks.{checkJob}
 use Rattle.job.specs.declared.Check.{Check}
 use Rattle.job.proofs.Rows.{pass, stop}
-use Rattle.turns.specs.Calls.{checkSchedule}
+use Rattle.calls.specs.Calls.{checkSchedule}
 use Rattle.listing.specs.Listing.{listingCheck}
 use Rattle.listing.proofs.Accepting.{rest}
 use Rattle.listing.proofs.input.check_input.Statement.{statement}

@@ -1,0 +1,11 @@
+pub mod Answering
+pub mod Tallies
+pub mod Running
+pub mod Histories
+pub mod Answers
+pub mod OnLists
+pub mod Named
+pub mod RulesBehind
+pub mod Opening
+pub mod Alone
+pub mod Demands

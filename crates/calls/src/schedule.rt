@@ -1,0 +1,55 @@
+// The schedule of a run: its check, and its turns, one after the other. The contracts cite `runTable` and `runKinds` of the turn's specs, and
+// `checkSchedule` and `tally` of specs/Calls.
+ghost use mathlib.Core.Path.{_≡_};
+ghost use Prim.Native.Nat.{ℕ, _<_};
+ghost use lib.ListN.{length, getD};
+ghost use Rattle.job.specs.Accepted.{WellFormed};
+ghost use Rattle.job.specs.Bytes.{Number};
+ghost use Rattle.job.specs.Format.{workers as workersOf, jobOf};
+ghost use Rattle.turn.specs.Turn.{runTable, runKinds};
+ghost use Rattle.calls.specs.Calls.{checkSchedule, tally as tallyOf};
+ghost use Rattle.turn.specs.Ready.{Ready};
+use crate::tally;
+use job::Check;
+use job::ClaimIndex;
+use job::format;
+
+// The worker that a byte of a schedule names.
+pub fn wide(b: u8) -> usize
+    ensures { λ r. ⌜ Number r b 256 ⌝ }
+{
+    b as usize
+}
+
+// The turns that the schedule names, and their tally.
+pub fn run_turns(job: &[u8], index: &ClaimIndex, table: &mut [u32], schedule: &[u8]) -> [u64; 8]
+    requires { ⌜ Ready (now job) (now index) (now table) ⌝ }
+    requires { ⌜ ((i : ℕ) → i < length (now schedule) → getD (now schedule) i 0 < workersOf (now job)) ⌝ }
+    ensures { λ r. ⌜ r ≡ tallyOf (runKinds (jobOf (now (job .entry))) (now (table .entry)) (now (schedule .entry))) ⌝ }
+    ensures { λ r. ⌜ now (table .exit) ≡ runTable (jobOf (now (job .entry))) (now (table .entry)) (now (schedule .entry)) ⌝ }
+{
+    let mut counts = tally::no_turns();
+    for i in 0..schedule.len() {
+        let kind = turn::take_turn(job, index, table, wide(schedule[i]));
+        let next = tally::counted(counts, kind);
+        counts = next;
+    }
+    counts
+}
+
+// Row 11 of a run: every worker that the schedule names is one of the job's.
+pub fn check_schedule(job: &[u8], schedule: &[u8]) -> Check
+    requires { ⌜ WellFormed (now job) ⌝ }
+    ensures { λ r. ⌜ r ≡ checkSchedule (now (job .entry)) (now (schedule .entry)) ⌝ }
+{
+    let workers = format::worker_count(job);
+    for i in 0..schedule.len() {
+        if workers <= wide(schedule[i]) {
+            return Check::Refused {
+                number: 11,
+                place: i,
+            };
+        }
+    }
+    Check::Accepted
+}

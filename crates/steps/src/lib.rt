@@ -1,0 +1,1 @@
+// No code: a turn is a step of the theory in `waiting`, or idle; verdicts are kept; what turns one after the other come to (proofs/).

@@ -1,0 +1,184 @@
+-- What is reached, as a set of bytes holds it; the marks that completion gives; and the turn of a worker with an open claim. Assumes nothing.
+--   reached-rising    what is reached stands in rising order
+--   members-reached   the members of a set that holds what is reached are what is reached
+--   newest-in         the newest of some claims is one of them
+--   completed         the marks stored from the bytes evaluated are those of completion
+--   work-completed, work-idle, work-passes   the turn, by what was gathered
+--   left-one          the newest claim with a literal left is a claim, is w's, and has one
+use Prim.Native.Nat.{ℕ, zero, suc, _+_, _-_, _<_}
+use mathlib.Core.Path.{_≡_, refl, sym, _∙_, ap, ap₂, subst⁻¹}
+use mathlib.Core.Bool.{Bool, true, false, not, _&&_, false≢true}
+use mathlib.Core.List.{List, [], _∷_, _++_}
+use native.Mathlib.Omega.{arith}
+use borrow.Author.Tests.{eq-eqb, ne-eqb}
+use lib.Dec.{ltb, eqb}
+use lib.ListN.{length, getD, set, drop}
+use Rattle.base.specs.Choose.{pick}
+use Rattle.base.specs.Span.{span}
+use Rattle.base.specs.Lists.{upto, keep, every, isIn}
+use Rattle.base.proofs.Bools.{is-true, and-both}
+use Rattle.base.proofs.Choose.{pick-elim, pick-true, pick-false}
+use Rattle.base.proofs.Lists.{In, in-head, in-tail, upto-in, keep-in, keep-same, keep-members}
+use Rattle.job.specs.Job.{Job}
+use Rattle.job.specs.Format.{claims, jobOf}
+use Rattle.semantics.specs.Model.{programOf, verdict, exchange, knownOf}
+use Rattle.model.specs.Output.{verdictBytes, knownOutput}
+use Rattle.model.specs.Passes.{setOf, givenProgram}
+use Rattle.model.proofs.Rules.{claims-given}
+use Rattle.model.proofs.Written.{outputBytes}
+use Rattle.table.specs.Layout.{markWord, mark, cursor, number, owned, valueOf, markOf, values}
+use Rattle.table.proofs.Sizes.{sizes}
+use Rattle.turn.specs.Turn.{Turned, lits, spread, spreads, reached, newest, allPassed, completedMark, markAll, passTurn, workTurn}
+use Rattle.turn.specs.Ready.{Ready, Made, members, passedIn}
+use Rattle.turn.specs.declared.Kind.{Kind}
+use Rattle.turn.specs.declared.Kind.the-variants.{Idle, Completed}
+use Rattle.turn.proofs.Making.{made-as, made-from}
+use Rattle.turn.proofs.Cursors.{size-is}
+use Rattle.turn.proofs.Jobs.{lits-length}
+
+-- what is reached stands in rising order
+module _ (j : Job) (t : List ℕ) where
+  abbrev Rising : List ℕ → Type 0
+  Rising s = s ≡ keep (λ d. isIn d s) (upto (j .claims))
+
+  spread-rising : (s : List ℕ) → Rising (spread j t s)
+  unfolding spread
+  spread-rising s = keep-members _ (upto (j .claims))
+
+  spreads-rising : (n : ℕ) (s : List ℕ) → Rising s → Rising (spreads n j t s)
+  unfolding spreads
+  spreads-rising zero s h = h
+  spreads-rising (suc n) s h = spreads-rising n (spread j t s) (spread-rising s)
+
+  some-rising : (n : ℕ) (s : List ℕ) → 0 < n → Rising (spreads n j t s)
+  unfolding spreads
+  some-rising zero s h = absurd (omega arith)
+  some-rising (suc n) s h = spreads-rising n (spread j t s) (spread-rising s)
+
+  pub reached-rising : (c : ℕ) → c < j .claims → Rising (reached j t c)
+  unfolding reached
+  reached-rising c h = some-rising (j .claims) (c ∷ []) (omega arith)
+
+  pub members-reached : (c : ℕ) → c < j .claims → (seen : List ℕ) → length seen ≡ j .claims → ((d : ℕ) → setOf seen d ≡ isIn d (reached j t c)) → members seen ≡ reached j t c
+  unfolding members
+  members-reached c h seen long is =
+      ap (λ (n : ℕ). keep (setOf seen) (upto n)) long
+      ∙ (keep-same (setOf seen) (λ d. isIn d (reached j t c)) (upto (j .claims)) (λ d i. is d) ∙ sym (reached-rising c h))
+
+-- tests and marks that agree on a list
+every-same : (p q : ℕ → Bool) (s : List ℕ) → ((d : ℕ) → In d s → p d ≡ q d) → every p s ≡ every q s
+unfolding every
+every-same p q [] f = refl
+every-same p q (x ∷ s) f = ap₂ _&&_ (f x (in-head x s)) (every-same p q s (λ d i. f d (in-tail d x s i)))
+
+marks-same : (f g : ℕ → ℕ) (s t : List ℕ) → ((d : ℕ) → In d s → f d ≡ g d) → markAll f s t ≡ markAll g s t
+unfolding markAll
+marks-same f g [] t h = refl
+marks-same f g (x ∷ s) t h =
+    ap (λ (v : ℕ). markAll f s (set t (markWord x) v)) (h x (in-head x s)) ∙ marks-same f g s (set t (markWord x) (g x)) (λ d i. h d (in-tail d x s i))
+
+-- the newest of some claims is one of them
+data Of (s : List ℕ) : ℕ → Type 0 where
+  none : Of s 0
+  one : (d : ℕ) → In d s → Of s (suc d)
+
+of-more : (x : ℕ) (s : List ℕ) {n : ℕ} → Of s n → Of (x ∷ s) n
+of-more x s none = none
+of-more x s (one d i) = one d (in-tail d x s i)
+
+newest-of : (t s : List ℕ) → Of s (newest t s)
+unfolding newest
+newest-of t [] = none
+newest-of t (x ∷ s) =
+    pick-elim (Of (x ∷ s)) (eqb (newest t s) 0) (λ h. one x (in-head x s))
+    (λ h. pick-elim (Of (x ∷ s)) (ltb (number t (newest t s - 1)) (number t x)) (λ k. one x (in-head x s)) (λ k. of-more x s (newest-of t s)))
+
+of-in : (s : List ℕ) {n : ℕ} → Of s n → (n ≡ 0 → ⊥) → In (n - 1) s
+of-in s none h = absurd (h refl)
+of-in s (one d i) h = let e : suc d - 1 ≡ d = omega arith in rw e i
+
+pub newest-in : (t s : List ℕ) {n : ℕ} → n ≡ newest t s → (n ≡ 0 → ⊥) → In (n - 1) s
+newest-in t s {n} e h = of-in s (subst⁻¹ (Of s) e (newest-of t s)) h
+
+-- members are claims
+member-low : (seen : List ℕ) (d : ℕ) → In d (members seen) → d < length seen
+unfolding members
+member-low seen d i = upto-in d (length seen) (keep-in (setOf seen) d (upto (length seen)) i .0)
+
+abbrev completedBy : Job → List ℕ → ℕ → ℕ
+completedBy j g c = markOf (verdict (exchange (knownOf g) (programOf j)) c)
+
+-- completion: g are the values before, o those after
+module _ (s t : List ℕ) {g o : List ℕ} (o₀ : List ℕ) (n : ℕ) (long : n ≡ claims s) (e : g ≡ span (λ c. valueOf (mark t c)) 0 n) (h : o ≡ knownOutput s g o₀) where
+  values-are : g ≡ values (jobOf s) t
+  unfolding values
+  values-are = e ∙ ap (span (λ c. valueOf (mark t c)) 0) (long ∙ sym (sizes s .claims-are))
+
+  byte-is : (d : ℕ) → d < claims s → 255 + getD o d 0 ≡ completedMark (jobOf s) t d
+  unfolding completedMark
+  byte-is d l =
+      let P = givenProgram s g in
+      let z = claims-given s g in
+      let q : getD (knownOutput s g o₀) d 0 ≡ getD (verdictBytes P ++ drop (P .claims) o₀) d 0 = ap (λ (k : ℕ). getD (verdictBytes P ++ drop k o₀) d 0) (sym z) in
+      ap (λ (x : ℕ). 255 + x) (ap (λ (x : List ℕ). getD x d 0) h ∙ (q ∙ outputBytes P o₀ .verdictAt d (omega arith)))
+      ∙ ap (λ (x : List ℕ). completedBy (jobOf s) x d) values-are
+
+  pub completed : (seen : List ℕ) → length seen ≡ claims s → {u : List ℕ} → u ≡ markAll (λ d. 255 + getD o d 0) (members seen) t → u ≡ markAll (completedMark (jobOf s) t) (members seen) t
+  completed seen k q =
+      q ∙ marks-same (λ d. 255 + getD o d 0) (completedMark (jobOf s) t) (members seen) t (λ d i. byte-is d (omega (arith, member-low seen d i)))
+
+differ : (x y : ℕ) → not (eqb x y) ≡ true → x ≡ y → ⊥
+differ x y e h = false≢true (ap not (sym (eq-eqb x y h)) ∙ e)
+
+-- what was gathered from n, and the turn by it
+module _ (s index t : List ℕ) (r : Ready s index t) (w n : ℕ) (l : n < claims s) (seen : List ℕ) (long : length seen ≡ claims s) (is : (d : ℕ) → setOf seen d ≡ isIn d (reached (jobOf s) t n)) where
+  abbrev j : Job
+  j = jobOf s
+
+  are : members seen ≡ reached j t n
+  are = members-reached j t n (omega (arith, sizes s .claims-are)) seen (long ∙ sym (sizes s .claims-are)) is
+
+  low : (d : ℕ) → In d (members seen) → d < claims s
+  low d i = omega (arith, member-low seen d i)
+
+  all-passed : (d : ℕ) → In d (members seen) → passedIn index t d ≡ allPassed j t d
+  unfolding allPassed
+  all-passed d i = ap (eqb (cursor t d)) (size-is s index (r .job) (r .indexed) d (low d i))
+
+  abbrev done : Bool
+  done = every (λ d. owned t w d && passedIn index t d) (members seen)
+
+  abbrev toPass : List ℕ
+  toPass = keep (λ d. owned t w d && not (passedIn index t d)) (members seen)
+
+  parts : workTurn j t w n ≡ pick done (record { kind = Completed; table = markAll (completedMark j t) (members seen) t }) (pick (eqb (newest t toPass) 0) (record { kind = Idle; table = t }) (passTurn j t w (newest t toPass - 1)))
+  unfolding workTurn
+  parts =
+      let a : every (λ d. owned t w d && allPassed j t d) (members seen) ≡ done = sym (every-same _ _ (members seen) (λ d i. ap (λ (b : Bool). owned t w d && b) (all-passed d i))) in
+      let b : keep (λ d. owned t w d && not (allPassed j t d)) (members seen) ≡ toPass = sym (keep-same _ _ (members seen) (λ d i. ap (λ (b : Bool). owned t w d && not b) (all-passed d i))) in
+      ap (λ (m : List ℕ). pick (every (λ d. owned t w d && allPassed j t d) m) (record { kind = Completed; table = markAll (completedMark j t) m t }) (pick (eqb (newest t (keep (λ d. owned t w d && not (allPassed j t d)) m)) 0) (record { kind = Idle; table = t }) (passTurn j t w (newest t (keep (λ d. owned t w d && not (allPassed j t d)) m) - 1)))) (sym are)
+      ∙ ap₂ (λ (x : Bool) (y : List ℕ). pick x (record { kind = Completed; table = markAll (completedMark j t) (members seen) t }) (pick (eqb (newest t y) 0) (record { kind = Idle; table = t }) (passTurn j t w (newest t y - 1)))) a b
+
+  module _ {z : Bool} (q : z ≡ done) where
+    pub work-completed : z ≡ true → {u : List ℕ} → u ≡ markAll (completedMark j t) (members seen) t → Made (workTurn j t w n) Completed u
+    work-completed e h = made-from h (made-as _ _ (parts ∙ pick-true _ _ _ (sym q ∙ e)))
+
+    module _ (no : z ≡ false) {k : ℕ} (x : k ≡ newest t toPass) where
+      later : workTurn j t w n ≡ pick (eqb k 0) (record { kind = Idle; table = t }) (passTurn j t w (k - 1))
+      later =
+          parts ∙ (pick-false _ _ _ (sym q ∙ no) ∙ ap (λ (m : ℕ). pick (eqb m 0) (record { kind = Idle; table = t }) (passTurn j t w (m - 1))) (sym x))
+
+      pub work-idle : k ≡ 0 → Made (workTurn j t w n) Idle t
+      work-idle e = made-as _ _ (later ∙ pick-true _ _ _ (eq-eqb k 0 e))
+
+      pub work-passes : (k ≡ 0 → ⊥) → {y : Kind} {u : List ℕ} → Made (passTurn j t w (k - 1)) y u → Made (workTurn j t w n) y u
+      work-passes h {y} {u} m = subst⁻¹ (λ (v : Turned). Made v y u) (later ∙ pick-false _ _ _ (ne-eqb k 0 h)) m
+
+  -- the newest with a literal left is w's, and has one
+  pub left-one : {k : ℕ} → k ≡ newest t toPass → (k ≡ 0 → ⊥) → (k - 1 < claims s) × (owned t w (k - 1) ≡ true) × (cursor t (k - 1) < length (lits j (k - 1)))
+  left-one {k} x h =
+      let i = keep-in (λ d. owned t w d && not (passedIn index t d)) (k - 1) (members seen) (newest-in t toPass x h) in
+      let b = low (k - 1) (i .0) in
+      let a = and-both (owned t w (k - 1)) (not (passedIn index t (k - 1))) (is-true _ (i .1)) in
+      let m : cursor t (k - 1) ≡ length (lits j (k - 1)) → ⊥ = λ e. differ (cursor t (k - 1)) _ (a .1) (e ∙ sym (size-is s index (r .job) (r .indexed) (k - 1) b)) in
+      (b, a .0, omega (arith, lits-length j (k - 1), r .table .claim (k - 1) (omega (arith, sizes s .claims-are)) .read))

@@ -1,0 +1,73 @@
+-- `turn::gather::visit` meets its contract. Assumes nothing.
+use Prim.Native.Nat.{_<_}
+use mathlib.Core.Path.{sym, _∙_}
+use native.Mathlib.Omega.{arith}
+use borrow.Author.Needs.{needs}
+use lib.ListN.{length}
+use Rattle.turn.proofs.Worklist.{visit-complete, visit-there, visit-push, push-room}
+use Rattle.turn.proofs.gather.visit.Statement.{statement}
+use Rattle.turn.proofs.gather.visit.Tie as tie
+
+-- a claim that is to be pushed has room
+room : (c : tie.Else2) → (c .before .before .before .before .before .before .before .before .args .top < length (c .before .before .before .before .before .before .before .before .args .stack .now)) × (c .before .before .before .before .before .before .before .before .args .top < 4096)
+room c =
+    let start = c .before .before .before .before .before .before .before .before in
+    let r = push-room _ _ (start .args .b) (start .pre .2) (start .pre .0) (sym (c .before .member .ensures) ∙ c .if2 .left) in
+    (r .0, omega (arith, r .1, start .pre .2 .few))
+
+mark-at-requires : tie.Need-mark-at-requires
+mark-at-requires c κs = search needs
+
+returns : tie.Need-returns
+returns c = visit-complete _ _ _ _ (c .before .mark-at .ensures .value) (c .if1 .taken)
+
+member-requires : tie.Need-member-requires
+member-requires c κs = search needs
+
+same-length : tie.Need-same-length
+same-length c = search needs
+
+returns-2 : tie.Need-returns-2
+returns-2 c = visit-there _ _ _ _ (c .before .before .before .before .mark-at .ensures .value) (c .before .before .before .if1 .left) (sym (c .before .member .ensures) ∙ c .if2 .taken)
+
+slice-write-seen : tie.Need-slice-write-seen
+slice-write-seen c = search needs
+
+cast-stack : tie.Need-cast-stack
+cast-stack c = search needs
+
+mul-stack : tie.Need-mul-stack
+mul-stack c = omega (arith, room c)
+
+slice-write-stack : tie.Need-slice-write-stack
+slice-write-stack c = room c .0
+
+add-result : tie.Need-add-result
+add-result c = omega (arith, room c)
+
+same-length-2 : tie.Need-same-length-2
+same-length-2 c = search needs
+
+same-length-3 : tie.Need-same-length-3
+same-length-3 c = search needs
+
+returns-3 : tie.Need-returns-3
+returns-3 c = visit-push _ _ _ _ (c .before .before .before .before .mark-at .ensures .value) (c .before .before .before .if1 .left) (sym (c .before .member .ensures) ∙ c .if2 .left)
+
+pub visit-spec : {M : Type 1} → statement M
+visit-spec =
+    tie.close
+    (tie.spec
+    mark-at-requires
+    returns
+    member-requires
+    same-length
+    returns-2
+    slice-write-seen
+    cast-stack
+    mul-stack
+    slice-write-stack
+    add-result
+    same-length-2
+    same-length-3
+    returns-3)

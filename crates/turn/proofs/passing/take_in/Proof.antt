@@ -1,0 +1,46 @@
+-- `turn::passing::take_in` meets its contract: the members of the set are what is reached (proofs/Completing). Assumes nothing.
+use Prim.Native.Nat.{ℕ, _+_}
+use mathlib.Core.Bool.{not}
+use mathlib.Core.List.{List}
+use mathlib.Core.Path.{sym, _∙_, ap}
+use native.Mathlib.Omega.{arith}
+use borrow.Author.Needs.{needs}
+use Rattle.base.specs.Lists.{keep}
+use Rattle.turn.proofs.Completing.{members-reached}
+use Rattle.turn.proofs.Following.{room}
+use Rattle.turn.specs.Turn.{markAll}
+use Rattle.table.proofs.Sizes.{sizes}
+use Rattle.table.specs.Layout.{fresh}
+use Rattle.turn.proofs.passing.take_in.Statement.{statement}
+use Rattle.turn.proofs.passing.take_in.Tie as tie
+
+gather-requires : tie.Need-gather-requires
+gather-requires c κs = search needs
+
+take-members-requires : tie.Need-take-members-requires
+take-members-requires c κs =
+    let a = c .before .before .before .before .before .before .before .before .before .before in
+    let k = c .before .before .before .before .gather .kept .1 .1 .1 .1 .0 in
+    omega (arith, a .pre .1 .0, a .pre .1 .2, room _ _ (a .pre .0 .table), a .pre .0 .job .sized .claimsMost, a .pre .0 .job .sized .workersMost)
+
+same-length : tie.Need-same-length
+same-length c = search needs
+
+same-length-2 : tie.Need-same-length-2
+same-length-2 c = search needs
+
+returns : tie.Need-returns
+returns c =
+    let c₁ = c .before .before .before .before .before .before .before in
+    let c₂ = c₁ .before .before .before .before .before .before in
+    let s = c₂ .args .job .now in
+    let t = c₂ .args .table .now in
+    let w = c₂ .args .w in
+    let g = c₁ .gather in
+    c .before .before .take-members .ensures
+    ∙ ap (λ (m : List ℕ). markAll (λ (d : ℕ). w + 1) (keep (λ (d : ℕ). not (fresh t d)) m) t)
+    (members-reached _ t _ (omega (arith, sizes s .claims-are, c₂ .pre .1 .1)) _ (g .kept .1 .1 .1 .1 .0 ∙ (c₂ .pre .1 .0 ∙ sym (sizes s .claims-are))) (g .ensures))
+
+pub take-in-spec : {M : Type 1} → statement M
+take-in-spec =
+    tie.close (tie.spec gather-requires take-members-requires same-length same-length-2 returns)

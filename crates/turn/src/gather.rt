@@ -1,0 +1,101 @@
+// Gathering what a claim reaches: a worklist, in which each claim stands at most once. The contracts cite specs/Gather and `reached` of specs/Turn.
+ghost use mathlib.Core.Path.{_≡_};
+ghost use Prim.Native.Nat.{ℕ, _+_, _*_, _≤_, _<_};
+ghost use lib.ListN.{length, getD};
+ghost use Rattle.base.specs.Lists.{isIn};
+ghost use Rattle.job.specs.Bytes.{Number};
+ghost use Rattle.job.specs.Format.{claims, jobOf};
+ghost use Rattle.model.specs.Passes.{setOf};
+ghost use Rattle.table.specs.Layout.{cursor as passedBy};
+ghost use Rattle.turn.specs.Turn.{reached};
+ghost use Rattle.turn.specs.Ready.{Ready};
+ghost use Rattle.turn.specs.Gather.{met, Fits, Room, visit as visitOf, visits};
+use crate::failing;
+use job::ClaimIndex;
+use job::Cursor;
+use job::format;
+use model::sets;
+use table::words;
+
+// Room for the claims to be looked at.
+fn no_claims() -> [u32; 4096]
+    ensures { λ r. ⌜ length r ≡ 4096 ⌝ }
+{
+    [0u32; 4096]
+}
+
+fn wide(x: u32) -> usize
+    ensures { λ r. ⌜ Number r x 4294967296 ⌝ }
+{
+    x as usize
+}
+
+// Meets claim b: marks and pushes it, unless it is complete or was met before. Answers the stack's new top.
+fn visit(table: &[u32], b: usize, seen: &mut [u8], stack: &mut [u32], top: usize) -> usize
+    requires { ⌜ (b < length (now seen)) × (8 + 3 * length (now seen) ≤ length (now table)) × Fits (length (now seen)) (record { seen = now seen; stack = now stack; top = top }) ⌝ }
+    ensures { λ r. ⌜ visitOf (now (table .entry)) b (record { seen = now (seen .entry); stack = now (stack .entry); top = top }) ≡ record { seen = now (seen .exit); stack = now (stack .exit); top = r } ⌝ }
+{
+    if 256 <= words::mark_at(table, b) {
+        return top;
+    }
+    if sets::member(seen, b) {
+        return top;
+    }
+    seen[b] = 1;
+    stack[top] = b as u32;
+    top + 1
+}
+
+// Meets the claims of the literals that the cursor has left, and that stand behind no false one, in order. Answers the stack's new top.
+fn expand(
+    job: &[u8],
+    index: &ClaimIndex,
+    table: &[u32],
+    rules: usize,
+    from: Cursor,
+    seen: &mut [u8],
+    stack: &mut [u32],
+    bottom: usize,
+) -> usize
+    requires { ⌜ Room (now job) rules (now index) (now table) (length (now seen)) from (record { seen = now seen; stack = now stack; top = bottom }) ⌝ }
+    ensures { λ r. ⌜ visits (now (table .entry)) (met (now (job .entry)) rules (now (index .entry)) (now (table .entry)) from) (record { seen = now (seen .entry); stack = now (stack .entry); top = bottom }) ≡ record { seen = now (seen .exit); stack = now (stack .exit); top = r } ⌝ }
+{
+    let mut cursor = from;
+    let mut top = bottom;
+    while !cursor.at_end() {
+        let literal = cursor.current(job, rules);
+        top = visit(table, format::claim_of(literal), seen, stack, top);
+        cursor = failing::moved_on(index, table, literal, cursor);
+    }
+    top
+}
+
+// The cursor over the literals that claim c has passed.
+fn passed_over(index: &ClaimIndex, table: &[u32], c: usize) -> Cursor
+    requires { ⌜ (c < 4096) × (10 + 3 * c < length (now table)) × (getD (now index) c 0 ≤ 16384) ⌝ }
+    ensures { λ r. ⌜ r ≡ record { at = getD (now (index .entry)) c 0; end = getD (now (index .entry)) c 0 + passedBy (now (table .entry)) c } ⌝ }
+{
+    let start = Cursor::over(index, c, 0).at;
+    Cursor {
+        at: start,
+        end: start + words::cursor_at(table, c),
+    }
+}
+
+// What the claim reaches, into seen. Each claim is pushed at most once, and each passed literal looked at once at most.
+pub fn gather(job: &[u8], index: &ClaimIndex, table: &[u32], claim: usize, seen: &mut [u8])
+    requires { ⌜ Ready (now job) (now index) (now table) ⌝ }
+    requires { ⌜ (length (now seen) ≡ claims (now job)) × (claim < claims (now job)) ⌝ }
+    ensures { λ r. ⌜ ((d : ℕ) → setOf (now (seen .exit)) d ≡ isIn d (reached (jobOf (now (job .entry))) (now (table .entry)) claim)) ⌝ }
+{
+    let rules = format::rule_count(job);
+    let mut stack = no_claims();
+    sets::clear(seen);
+    seen[claim] = 1;
+    stack[0] = claim as u32;
+    let mut top: usize = 1;
+    while 0 < top {
+        let from = passed_over(index, table, wide(stack[top - 1]));
+        top = expand(job, index, table, rules, from, seen, &mut stack, top - 1);
+    }
+}

@@ -1,0 +1,74 @@
+// One turn of a worker over the words of a shared table: the parts of a turn, and `take_turn`, the whole of it.
+// The contracts cite specs/: Turn (what a turn does), Ready (what the functions are lent), Gather (the worklist).
+ghost use mathlib.Core.Path.{_≡_};
+ghost use Prim.Native.Nat.{_<_};
+ghost use Rattle.job.specs.Format.{workers as workersOf, jobOf};
+ghost use Rattle.job.specs.Accepted.{WellFormed};
+ghost use Rattle.table.specs.Layout.{awaited as awaitedOf};
+ghost use Rattle.table.specs.Ranges.{InRange};
+ghost use Rattle.turn.specs.Turn.{turn};
+ghost use Rattle.turn.specs.Ready.{Ready, Made};
+
+mod asking;
+mod failing;
+mod gather;
+mod newest;
+mod owners;
+mod passing;
+mod questions;
+mod stores;
+mod working;
+
+use job::ClaimIndex;
+use job::format;
+use table::words;
+
+// The kind of a turn.
+pub enum Kind {
+    Idle,
+    Woke,
+    Opened,
+    Waits,
+    Took,
+    Passed,
+    Completed,
+    Answered,
+}
+
+// A worker's next question, by its position in the file.
+pub enum Next {
+    At(usize),
+    Nothing,
+}
+
+// The turn of worker w, which awaits claim awaited - 1.
+fn wait_turn(job: &[u8], table: &mut [u32], w: usize, awaited: usize) -> Kind
+    requires { ⌜ WellFormed (now job) × InRange (jobOf (now job)) (now table) × (w < workersOf (now job)) ⌝ }
+    requires { ⌜ (0 < awaited) × (awaited ≡ awaitedOf (jobOf (now job)) (now table) w) ⌝ }
+    ensures { λ r. ⌜ Made (turn (jobOf (now (job .entry))) (now (table .entry)) w) r (now (table .exit)) ⌝ }
+{
+    let claims = format::claim_count(job);
+    if 256 <= words::mark_at(table, awaited - 1) {
+        stores::store_word(table, 8 + 3 * claims + 2 * w, 0);
+        return Kind::Woke;
+    }
+    Kind::Idle
+}
+
+// A turn of worker w.
+pub fn take_turn(job: &[u8], index: &ClaimIndex, table: &mut [u32], w: usize) -> Kind
+    requires { ⌜ Ready (now job) (now index) (now table) ⌝ }
+    requires { ⌜ w < workersOf (now job) ⌝ }
+    ensures { λ r. ⌜ Made (turn (jobOf (now (job .entry))) (now (table .entry)) w) r (now (table .exit)) ⌝ }
+{
+    let claims = format::claim_count(job);
+    let awaited = words::awaited_at(table, claims, w);
+    if 0 < awaited {
+        return wait_turn(job, table, w, awaited);
+    }
+    let n = newest::newest_owned(table, claims, w);
+    if n == 0 {
+        return asking::ask_turn(job, table, w);
+    }
+    working::work_turn(job, index, table, w, n - 1)
+}
