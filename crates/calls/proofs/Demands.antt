@@ -18,7 +18,8 @@ use Rattle.semantics.proofs.Missing.{missing-of}
 use Rattle.semantics.proofs.Textbook.{textbook-of}
 use Rattle.table.specs.Layout.{mark, valueOf, markOf, values}
 use Rattle.turn.specs.Turn.{completedMark}
-use Rattle.calls.specs.Promise.{extendedMark, Promise}
+use Rattle.calls.specs.Promise.{from, extendedMark, Promise}
+use Rattle.calls.proofs.Taken.{starts, taken}
 use Rattle.calls.proofs.OnLists.{answer-is, on-accepted, on-verdicts, on-values, on-holds, on-quiet, on-changes, on-rounds}
 use Rattle.calls.proofs.Named.{on-claims}
 use Rattle.calls.proofs.RulesBehind.{on-literals}
@@ -38,6 +39,8 @@ promise s e =
       claims = λ t f xs. on-claims s e t f xs;
       literals = λ t f xs. on-literals s e t f xs;
       opened = λ t f xs. on-opened s e t f xs;
+      starts = λ t. starts s t e;
+      taken = λ t f xs. taken s (from s t xs) e (on-accepted s e t f xs);
       accepted = λ t f xs. on-accepted s e t f xs;
       answers = on-answers s e;
       aloneAccepted = alone-accepted s e;

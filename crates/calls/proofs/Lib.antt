@@ -1,5 +1,7 @@
 pub mod Answering
 pub mod Tallies
+pub mod Taken
+pub mod Worked
 pub mod Running
 pub mod Histories
 pub mod Answers

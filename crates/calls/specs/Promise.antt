@@ -34,6 +34,7 @@ use Rattle.table.specs.Reading.{readingOf, readingValue}
 use Rattle.waiting.specs.Runs.{Rounds}
 use Rattle.turn.specs.Turn.{completedMark, turn}
 use Rattle.turn.specs.declared.Kind.the-variants.{Idle}
+use Rattle.calls.specs.Taken.{Started, Taken}
 use Rattle.calls.specs.Lists.{Call, turning, after, turnsOf, Event, events, IsAnswered, answerOf, AllAnswered, Complete}
 
 abbrev pub Fresh : List ℕ → List ℕ → Type 0
@@ -105,7 +106,11 @@ pub record Promise (s : List ℕ) : Type 0 where
   pub opened :
       (t : List ℕ) → Fresh s t → (xs : List Call) (w b : ℕ) → w < jobOf s .workers → b < jobOf s .claims → mark (from s t xs) b ≡ 0
       → (mark (turn (jobOf s) (from s t xs) w .table) b ≡ 0 → ⊥) → OpenedFor (jobOf s) (from s t xs) w b
-  -- every further call finds the table as rows 9 and 10 want it
+  -- starting gives such a table, where it is long enough
+  pub starts : (t : List ℕ) → Started s t
+  -- every further call of the job's own workers and claims is taken, answers what it did, and no other is
+  pub taken : (t : List ℕ) → Fresh s t → (xs : List Call) → Taken s (from s t xs)
+  -- for the table is as rows 9 and 10 want it
   pub accepted : (t : List ℕ) → Fresh s t → (xs : List Call) → Accepted ≡ checkTable (jobOf s) (from s t xs)
   -- "each answered question has the answer that one worker asking everything in sequence gets", by the question's position in the file
   pub answers :

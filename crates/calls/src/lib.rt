@@ -10,6 +10,7 @@ ghost use Rattle.job.specs.Claims.{Index};
 ghost use Rattle.table.specs.Ranges.{checkTable};
 ghost use Rattle.calls.specs.Calls.{startCheck, startTable, checkTurnWorker, turnCheck, turnAnswer, turnTable, checkSchedule, runCheck, runAnswer, runLeft, Ran, checkClaimRead, readCheck, readAnswer};
 ghost use Rattle.calls.specs.Promise.{Promise};
+ghost use Rattle.calls.specs.Worked.{Worked};
 ghost use Rattle.turn.specs.Ready.{Ready};
 
 pub mod schedule;
@@ -141,6 +142,7 @@ fn run_accepted(job: &[u8], index: &ClaimIndex, table: &mut [u32], schedule: &[u
 pub fn run(job: &[u8], table: &mut [u32], schedule: &[u8]) -> RunAnswer
     ensures { λ r. ⌜ r ≡ runAnswer (now (job .entry)) (now (table .entry)) (now (schedule .entry)) ⌝ }
     ensures { λ r. ⌜ now (table .exit) ≡ runLeft (runCheck (now (job .entry)) (now (table .entry)) (now (schedule .entry))) (now (job .entry)) (now (table .entry)) (now (schedule .entry)) ⌝ }
+    ensures { λ r. ⌜ Worked (now (job .entry)) (now (table .entry)) (now (schedule .entry)) r (now (table .exit)) ⌝ }
 {
     let check = job::checks::check_job(job);
     if let Check::Refused {

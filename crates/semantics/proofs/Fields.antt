@@ -43,7 +43,7 @@ pub layersRight : LayersRight
 layersRight = refl
 
 -- two mapped lists that are equal, at an element
-mapped-at : {A B : Type 0} (f g : A → B) (xs : List A) → map f xs ≡ map g xs → (x : A) → x ∈ xs → f x ≡ g x
+pub mapped-at : {A B : Type 0} (f g : A → B) (xs : List A) → map f xs ≡ map g xs → (x : A) → x ∈ xs → f x ≡ g x
 mapped-at f g [] e x m = absurd (List·Memᴰ·not-nil m)
 mapped-at f g (y ∷ xs) e x m =
     ⊎-elim (λ q. subst⁻¹ (λ z. f z ≡ g z) q (head-eq-of-cons-eq e)) (mapped-at f g xs (tail-eq-of-cons-eq e) x) (List·Memᴰ·cases-cons m)

@@ -17,7 +17,7 @@ use Rattle.table.specs.Layout as W
 use Rattle.table.specs.Start.{startWords}
 use Rattle.waiting.specs.Runs.{bound, Rounds}
 use Rattle.turn.specs.Turn.{lits, runTable}
-use Rattle.turn.proofs.Examples.{two}
+use Rattle.turn.specs.Worked.{two}
 use Rattle.turn.proofs.Jobs.{valid-ok}
 use Rattle.steps.proofs.Starting.{start-started}
 use Rattle.steps.proofs.Runs.{sizes, Low}

@@ -1,4 +1,4 @@
-pub mod Examples
+pub mod Worked
 pub mod Sweeps
 pub mod Following
 pub mod NextQuestion

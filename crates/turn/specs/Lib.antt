@@ -1,3 +1,4 @@
 pub mod Turn
 pub mod Gather
 pub mod Ready
+pub mod Worked

@@ -3,7 +3,8 @@ use mathlib.Core.Path.{sym, _∙_}
 use borrow.Author.Needs.{needs}
 use Rattle.job.proofs.Accepted.{well-formed}
 use Rattle.calls.specs.Calls.{runCheck}
-use Rattle.calls.proofs.Answering.{ran-stop-then, ran-then, ran-answer}
+use Rattle.calls.proofs.Answering.{ran-stop-then, ran-then}
+use Rattle.calls.proofs.Worked.{worked-answer}
 use Rattle.calls.proofs.run.Statement.{statement}
 use Rattle.calls.proofs.run.Tie as tie
 
@@ -18,7 +19,7 @@ no-turns-requires c κs = search needs
 
 returns : tie.Need-returns
 unfolding runCheck
-returns c = ran-answer _ _ _ (ran-stop-then _ _ _ _ _ (c .before .enum-told .given .1) (c .before .before .before .check-job .ensures .0) (c .no-turns .ensures))
+returns c = worked-answer _ _ _ (ran-stop-then _ _ _ _ _ (c .before .enum-told .given .1) (c .before .before .before .check-job .ensures .0) (c .no-turns .ensures))
 
 enum-told-2 : tie.Need-enum-told-2
 enum-told-2 c = search needs
@@ -34,7 +35,7 @@ same-length c = search needs
 
 returns-2 : tie.Need-returns-2
 unfolding runCheck
-returns-2 c = ran-answer _ _ _ (ran-then _ _ _ _ _ (c .before .before .before .before .before .before .enum-told2 .given .1) (c .before .before .before .before .before .before .before .before .check-job .ensures .0) (c .before .before .run-accepted .ensures))
+returns-2 c = worked-answer _ _ _ (ran-then _ _ _ _ _ (c .before .before .before .before .before .before .enum-told2 .given .1) (c .before .before .before .before .before .before .before .before .check-job .ensures .0) (c .before .before .run-accepted .ensures))
 
 pub run-spec : {M : Type 1} → statement M
 run-spec =
