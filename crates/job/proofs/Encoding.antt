@@ -8,12 +8,14 @@ use Rattle.job.specs.Bytes.{Bytes}
 use Rattle.job.specs.Job.{Job, literalCount}
 use Rattle.job.specs.Format.{questionByte, rules, literals, bodyStart, jobOf}
 use Rattle.job.specs.Accepted.{Sized, WellFormed}
-use Rattle.job.specs.Encoding.{encode, Valid, Reading}
+use Rattle.job.specs.Encoding.{encode, Valid}
+use Rattle.job.specs.Reading.{Reading}
 use Rattle.job.proofs.Accepted.{well-formed, accepted}
 use Rattle.job.proofs.Encoded.{wordsOf}
 use Rattle.job.proofs.Fields.{words-small, rules-whole, literals-small, encode-holds, encode-length, holds-encode}
 use Rattle.job.proofs.Decoded.{Words, words-at, job-read}
 use Rattle.job.proofs.Written.{rules-count, questions-count, literals-count, job-write}
+use Rattle.job.proofs.Answers.{answersRight}
 use Rattle.job.proofs.Valid.{well-formed-valid, valid-well-formed}
 
 pub decoded : (j : Job) → Valid j → jobOf (encode j) ≡ j
@@ -41,4 +43,5 @@ reading =
       exact = λ s b.
           (λ e. (jobOf s, well-formed-valid s (well-formed s e), well-formed-encoded s b (well-formed s e)), λ t. rw (t .2) (accepted (encode (t .0)) (encoded-well-formed (t .0) (t .1))));
       meaning = decoded;
+      worked = answersRight;
     }

@@ -13,4 +13,5 @@ pub mod Fields
 pub mod Decoded
 pub mod Written
 pub mod Valid
+pub mod Answers
 pub mod Encoding

@@ -1,25 +1,20 @@
--- Which bytes are a job's: the encoding of a job, written out along 01, 'Job bytes', and what the check promises of it.
+-- Which bytes are a job's: the encoding of a job, written out along 01, 'Job bytes'.
 --   halfBytes x, wordBytes x   16 and 32 bits, little-endian
 --   lengthOf r                 a rule's body length as written, 65,535 for a missing record
 --   fieldOf l                  a literal's 16 bits
 --   encode j                   the bytes of job j
 --   Valid j                    j is within the limits, its heads never fall, all its numbers are below their counts, and its
 --                              missing records have no literals
---   Reading                    accepted exactly where the bytes are the encoding of a valid job; and reading an encoding gives the job back
 use Prim.Native.Nat.{ℕ, _+_, _/_, _%_, _<_, _≤_}
 use mathlib.Core.List.{List, [], _∷_, _++_, flatMap, List·Memᴰ}
 use mathlib.Core.Path.{_≡_}
 use mathlib.Core.Bool.{true, cond}
-use mathlib.Core.Logic.{_↔_}
 use lib.ListN.{length}
-use Rattle.job.specs.Bytes.{Bytes}
 use Rattle.job.specs.Job.{claimOf, Rule, Job, literalCount, mostClaims, mostRules, mostLiterals, mostWorkers, mostQuestions, missingLength}
-use Rattle.job.specs.Format.{ruleByte, literalByte, questionByte, jobOf}
-use Rattle.job.specs.Checks.{checkJob}
+use Rattle.job.specs.Format.{ruleByte, literalByte, questionByte}
 use Rattle.job.specs.declared.Literal.{Literal}
 use Rattle.job.specs.declared.Literal.the-variants.{Plain, Negated}
 use Rattle.job.specs.declared.Question.{Question}
-use Rattle.job.specs.declared.Check.the-variants.{Accepted}
 
 -- "All fields little-endian."
 abbrev pub halfBytes : ℕ → List ℕ
@@ -90,9 +85,3 @@ pub record Valid (j : Job) : Type 0 where
   pub literals : (r : Rule) → r ∈ j .rules → (l : Literal) → l ∈ r .body → claimOf l < j .claims
   pub askers : (q : Question) → q ∈ j .questions → q .worker < j .workers
   pub asked : (q : Question) → q ∈ j .questions → q .claim < j .claims
-
-pub record Reading : Type 0 where
-  -- nothing else is accepted, and nothing else is refused
-  pub exact : (s : List ℕ) → Bytes s → (Accepted ≡ checkJob s) ↔ ((j : Job) × Valid j × (s ≡ encode j))
-  -- the bytes mean the job that they encode
-  pub meaning : (j : Job) → Valid j → jobOf (encode j) ≡ j

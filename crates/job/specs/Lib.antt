@@ -6,3 +6,4 @@ pub mod Rows
 pub mod Checks
 pub mod Accepted
 pub mod Encoding
+pub mod Reading

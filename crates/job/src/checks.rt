@@ -4,7 +4,7 @@ ghost use Prim.Native.Nat.{_≤_};
 ghost use lib.ListN.{length};
 ghost use Rattle.job.specs.Format.{rules, literals, bodyStart};
 ghost use Rattle.job.specs.Accepted.{Sized};
-ghost use Rattle.job.specs.Encoding.{Reading};
+ghost use Rattle.job.specs.Reading.{Reading};
 ghost use Rattle.job.specs.Checks.{checkLength, checkTotal, checkCounts, checkOffsets, checkHeads, checkBodies, checkLiterals, checkQuestions, checkHeader, checkParts, checkJob};
 use crate::Check;
 use crate::bytes;
