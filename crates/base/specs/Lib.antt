@@ -1,3 +1,4 @@
+pub mod Number
 pub mod Compare
 pub mod Span
 pub mod Sets

@@ -1,1 +1,2 @@
-// No code: definitions and laws that several crates share, each once (specs/ and proofs/).
+// What several crates share, each once: numbers made wider (wide), and definitions and laws (specs/ and proofs/).
+pub mod wide;

@@ -2,10 +2,8 @@
 --   half s at          the 16 bits at a byte
 --   word s at          the 32 bits at a byte
 --   Bytes s            every element of s is a byte
---   Number r v bound   what a reading function ensures: the value, and that it is below a bound
 use Prim.Native.Nat.{ℕ, _+_, _*_, _<_}
 use mathlib.Core.List.{List}
-use mathlib.Core.Path.{_≡_}
 use lib.ListN.{getD}
 
 unfoldable pub half : List ℕ → ℕ → ℕ
@@ -16,7 +14,3 @@ word s at = half s at + 65536 * half s (at + 2)
 
 abbrev pub Bytes : List ℕ → Type 0
 Bytes s = (k : ℕ) → getD s k 0 < 256
-
-pub record Number (r v bound : ℕ) : Type 0 where
-  pub value : r ≡ v
-  pub small : r < bound

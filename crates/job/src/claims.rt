@@ -6,7 +6,6 @@ ghost use lib.Bits.{bitOr};
 ghost use lib.Dec.{leb};
 ghost use lib.ListN.{length, getD, replicate};
 ghost use Rattle.base.specs.Compare.{under};
-ghost use Rattle.job.specs.Bytes.{Number};
 ghost use Rattle.job.specs.Accepted.{WellFormed};
 ghost use Rattle.job.specs.Format.{ruleByte, headAt, literalByte, literalAt};
 ghost use Rattle.job.specs.Claims.{Index, boundAt, endIn, moved, pastRule};
@@ -14,6 +13,7 @@ use crate::ClaimIndex;
 use crate::Cursor;
 use crate::Literal;
 use crate::format;
+use base::wide;
 
 // The index has a field a claim first, and then a bit a literal, 16 to a field.
 const BOUNDS_AT: usize = 4097;
@@ -70,12 +70,6 @@ pub fn index_claims(job: &[u8]) -> ClaimIndex
     index
 }
 
-fn wide(x: u16) -> usize
-    ensures { λ r. ⌜ Number r x 65536 ⌝ }
-{
-    x as usize
-}
-
 // Whether a rule ends before this literal.
 pub fn bounded(index: &ClaimIndex, at: usize) -> bool
     requires { ⌜ at ≤ 16384 ⌝ }
@@ -106,8 +100,8 @@ impl Cursor {
         ensures { λ r. ⌜ r ≡ record { at = getD (now (index .entry)) claim 0 + passed; end = getD (now (index .entry)) (claim + 1) 0 } ⌝ }
     {
         Cursor {
-            at: wide(index[claim]) + passed,
-            end: wide(index[claim + 1]),
+            at: wide::half(index[claim]) + passed,
+            end: wide::half(index[claim + 1]),
         }
     }
 

@@ -2,7 +2,7 @@
 ghost use mathlib.Core.Path.{_≡_};
 ghost use Prim.Native.Nat.{_+_, _≤_};
 ghost use lib.ListN.{length};
-ghost use Rattle.job.specs.Bytes.{Number};
+ghost use Rattle.base.specs.Number.{Number};
 ghost use Rattle.job.specs.Job.{claimOf};
 ghost use Rattle.job.specs.Format.{claims, rules, literals, workers, questions, ruleByte, literalByte, questionByte, headAt, missingAt, bodyLengthAt, literalOf, literalAt, questionAt};
 use crate::Literal;

@@ -11,6 +11,7 @@ use crate::Event;
 use crate::Slot;
 use crate::State;
 use crate::Word;
+use base::wide;
 
 // Where a number past it is kept: past every limit.
 const KEPT: usize = 65536;
@@ -253,7 +254,7 @@ fn add_digit(number: usize, b: u8) -> usize
     if 6553 < number {
         return KEPT;
     }
-    let more = 10 * number + (b as usize - 48);
+    let more = 10 * number + (wide::byte(b) - 48);
     if 65536 < more {
         return KEPT;
     }

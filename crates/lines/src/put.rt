@@ -1,6 +1,5 @@
 // Fields and the header of a job, written into the output. Each function writes at `at` and answers the place after what it wrote.
 // The contracts cite job/specs/Encoding and specs/Header.
-ghost use mathlib.Core.Path.{_≡_};
 ghost use mathlib.Core.List.{_++_, flatMap};
 ghost use Prim.Native.Nat.{_+_, _*_, _≤_};
 ghost use lib.ListN.{length};
@@ -10,6 +9,7 @@ ghost use Rattle.lines.specs.Numbering.{Small};
 ghost use Rattle.lines.specs.Header.{headerOf};
 use crate::Tally;
 use crate::room;
+use base::wide;
 use writing::put;
 
 // 16 bits, little-endian.
@@ -52,18 +52,6 @@ pub fn put_header(out: &mut [u8], t: Tally) -> usize
     put_words(out, b, 36, literals_at, questions_at)
 }
 
-pub fn wide16(x: u16) -> usize
-    ensures { λ r. ⌜ r ≡ x ⌝ }
-{
-    x as usize
-}
-
-pub fn wide32(x: u32) -> usize
-    ensures { λ r. ⌜ r ≡ x ⌝ }
-{
-    x as usize
-}
-
 // Notes as fields, one after the other.
 pub fn put_fields(out: &mut [u8], at: usize, notes: &[u32]) -> usize
     requires { ⌜ at + 2 * length (now notes) ≤ length (now out) ⌝ }
@@ -71,7 +59,7 @@ pub fn put_fields(out: &mut [u8], at: usize, notes: &[u32]) -> usize
 {
     let mut to = at;
     for i in 0..notes.len() {
-        to = put_half(out, to, wide32(notes[i]));
+        to = put_half(out, to, wide::word(notes[i]));
     }
     to
 }

@@ -12,6 +12,7 @@ use crate::Tally;
 use crate::note;
 use crate::place;
 use crate::put;
+use base::wide;
 
 // How many literals the rule at place p has: notes up to the next head.
 fn body_length(notes: &[u32], p: usize) -> usize
@@ -33,7 +34,7 @@ fn put_record(out: &mut [u8], at: usize, notes: &[u32], p: usize) -> usize
     requires { ⌜ (p < length (now notes)) × (at + 4 ≤ length (now out)) ⌝ }
     ensures { λ r. ⌜ Put (now (out .entry)) at (recordAt (now (notes .entry)) p) (now (out .exit)) r ⌝ }
 {
-    let a = put::put_half(out, at, put::wide32(notes[p]) % 65536);
+    let a = put::put_half(out, at, wide::word(notes[p]) % 65536);
     put::put_half(out, a, body_length(notes, p))
 }
 
@@ -43,7 +44,7 @@ fn put_records(out: &mut [u8], at: usize, notes: &[u32], order: &[u16]) -> usize
 {
     let mut to = at;
     for i in 0..order.len() {
-        to = put_record(out, to, notes, put::wide16(order[i]));
+        to = put_record(out, to, notes, wide::half(order[i]));
     }
     to
 }
@@ -64,7 +65,7 @@ fn put_bodies(out: &mut [u8], at: usize, notes: &[u32], order: &[u16]) -> usize
 {
     let mut to = at;
     for i in 0..order.len() {
-        to = put_body(out, to, notes, put::wide16(order[i]));
+        to = put_body(out, to, notes, wide::half(order[i]));
     }
     to
 }

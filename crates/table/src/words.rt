@@ -4,11 +4,12 @@ ghost use mathlib.Core.Path.{_≡_};
 ghost use Prim.Native.Nat.{_+_, _*_, _<_};
 ghost use lib.ListN.{length, getD};
 ghost use Rattle.job.specs.Accepted.{WellFormed};
-ghost use Rattle.job.specs.Bytes.{Number};
+ghost use Rattle.base.specs.Number.{Number};
 ghost use Rattle.job.specs.Format.{jobOf};
 ghost use Rattle.table.specs.Layout.{used, header, opened, markWord, cursorWord, numberWord, mark as markIn, cursor, number};
 ghost use Rattle.table.specs.Reading.{readingOf};
 use crate::Reading;
+use base::wide;
 use job::format;
 
 // Where the words of claims start, a mark, a cursor and an opening number each; those of workers follow, then those of questions.
@@ -27,18 +28,12 @@ pub const FALSE_MARK: usize = 257;
 
 pub const UNDEFINED_MARK: usize = 258;
 
-pub fn wide(x: u32) -> usize
-    ensures { λ r. ⌜ Number r x 4294967296 ⌝ }
-{
-    x as usize
-}
-
 // Word i.
 pub fn word_at(table: &[u32], i: usize) -> usize
     requires { ⌜ i < length (now table) ⌝ }
     ensures { λ r. ⌜ Number r (getD (now (table .entry)) i 0) 4294967296 ⌝ }
 {
-    wide(table[i])
+    wide::word(table[i])
 }
 
 // Claims opened so far.

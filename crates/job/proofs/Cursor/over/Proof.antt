@@ -4,29 +4,29 @@ use borrow.Author.Needs.{needs}
 use Rattle.job.proofs.Cursor.over.Statement.{statement}
 use Rattle.job.proofs.Cursor.over.Tie as tie
 
-mul-wide : tie.Need-mul-wide
-mul-wide c = search needs
+mul-half : tie.Need-mul-half
+mul-half c = search needs
 
-element-copy-out-wide : tie.Need-element-copy-out-wide
-element-copy-out-wide c = search needs
+element-copy-out-half : tie.Need-element-copy-out-half
+element-copy-out-half c = search needs
 
-wide-requires : tie.Need-wide-requires
-wide-requires c κs = search needs
+half-requires : tie.Need-half-requires
+half-requires c κs = search needs
 
 add-t9 : tie.Need-add-t9
 add-t9 c = omega arith
 
-add-wide : tie.Need-add-wide
-add-wide c = search needs
+add-half : tie.Need-add-half
+add-half c = search needs
 
-mul-wide-2 : tie.Need-mul-wide-2
-mul-wide-2 c = search needs
+mul-half-2 : tie.Need-mul-half-2
+mul-half-2 c = search needs
 
-element-copy-out-wide-2 : tie.Need-element-copy-out-wide-2
-element-copy-out-wide-2 c = search needs
+element-copy-out-half-2 : tie.Need-element-copy-out-half-2
+element-copy-out-half-2 c = search needs
 
-wide-requires-2 : tie.Need-wide-requires-2
-wide-requires-2 c κs = search needs
+half-requires-2 : tie.Need-half-requires-2
+half-requires-2 c κs = search needs
 
 returns : tie.Need-returns
 returns c = cc
@@ -35,12 +35,12 @@ pub over-spec : {M : Type 1} → statement M
 over-spec =
     tie.close
     (tie.spec
-    mul-wide
-    element-copy-out-wide
-    wide-requires
+    mul-half
+    element-copy-out-half
+    half-requires
     add-t9
-    add-wide
-    mul-wide-2
-    element-copy-out-wide-2
-    wide-requires-2
+    add-half
+    mul-half-2
+    element-copy-out-half-2
+    half-requires-2
     returns)

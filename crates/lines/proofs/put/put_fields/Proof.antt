@@ -18,20 +18,20 @@ abbrev μ-loop : tie.MeasureT-loop
 loop-holds : tie.Need-loop-holds Inv-loop μ-loop
 loop-holds c = (refl, parted-start-by _ 2 _ _ _ (λ x. refl) (c .before .before .pre))
 
-mul-wide32 : tie.Need-mul-wide32 Inv-loop μ-loop
-mul-wide32 c =
+mul-word : tie.Need-mul-word Inv-loop μ-loop
+mul-word c =
     let l = c .before .before in
     let h : l .loop .i < length (l .before .before .before .args .notes .now) = omega arith in
     search needs
 
-shared-slice-read-wide32 : tie.Need-shared-slice-read-wide32 Inv-loop μ-loop
-shared-slice-read-wide32 c = omega arith
+shared-slice-read-word : tie.Need-shared-slice-read-word Inv-loop μ-loop
+shared-slice-read-word c = omega arith
 
-wide32-requires : tie.Need-wide32-requires Inv-loop μ-loop
-wide32-requires c κs = tt
+word-requires : tie.Need-word-requires Inv-loop μ-loop
+word-requires c κs = tt
 
 put-half-requires : tie.Need-put-half-requires Inv-loop μ-loop
-put-half-requires c κs = let l = c .before .before .before .before .loop in parted-room (l .inv .1) _ (c .wide32 .ensures) (omega arith)
+put-half-requires c κs = let l = c .before .before .before .before .loop in parted-room (l .inv .1) _ (c .word .ensures .value) (omega arith)
 
 add-i : tie.Need-add-i Inv-loop μ-loop
 add-i c = omega arith
@@ -42,7 +42,7 @@ loop-less c = omega arith
 loop-again : tie.Need-loop-again Inv-loop μ-loop
 loop-again c =
     let l = c .before .before .before .before .before .before .before .loop in
-    (refl, parted-more (l .inv .1) _ _ _ (c .before .before .before .wide32 .ensures) (omega arith) (c .before .before .put-half .ensures))
+    (refl, parted-more (l .inv .1) _ _ _ (c .before .before .before .word .ensures .value) (omega arith) (c .before .before .put-half .ensures))
 
 same-length : tie.Need-same-length Inv-loop μ-loop
 same-length c = parted-size (c .before .loop .inv .1)
@@ -57,9 +57,9 @@ put-fields-spec =
     Inv-loop
     μ-loop
     loop-holds
-    mul-wide32
-    shared-slice-read-wide32
-    wide32-requires
+    mul-word
+    shared-slice-read-word
+    word-requires
     put-half-requires
     add-i
     loop-less

@@ -18,22 +18,22 @@ abbrev μ-loop : tie.MeasureT-loop
 loop-holds : tie.Need-loop-holds Inv-loop μ-loop
 loop-holds c = (refl, c .before .before .before .pre .0, parted-start _ _ _ _ (c .before .before .before .pre .1))
 
-mul-wide16 : tie.Need-mul-wide16 Inv-loop μ-loop
-mul-wide16 c =
+mul-half : tie.Need-mul-half Inv-loop μ-loop
+mul-half c =
     let l = c .before .before in
     let h : l .loop .i < length (l .before .before .before .before .args .order .now) = omega arith in
     search needs
 
-shared-slice-read-wide16 : tie.Need-shared-slice-read-wide16 Inv-loop μ-loop
-shared-slice-read-wide16 c = omega arith
+shared-slice-read-half : tie.Need-shared-slice-read-half Inv-loop μ-loop
+shared-slice-read-half c = omega arith
 
-wide16-requires : tie.Need-wide16-requires Inv-loop μ-loop
-wide16-requires c κs = tt
+half-requires : tie.Need-half-requires Inv-loop μ-loop
+half-requires c κs = tt
 
 put-body-requires : tie.Need-put-body-requires Inv-loop μ-loop
 put-body-requires c κs =
     let l = c .before .before .before .before .loop in
-    (omega (arith, l .inv .1 .below (l .i) (omega arith)), parted-room (l .inv .2) _ (c .wide16 .ensures) (omega arith))
+    (omega (arith, l .inv .1 .below (l .i) (omega arith)), parted-room (l .inv .2) _ (c .half .ensures .value) (omega arith))
 
 add-i : tie.Need-add-i Inv-loop μ-loop
 add-i c = omega arith
@@ -44,7 +44,7 @@ loop-less c = omega arith
 loop-again : tie.Need-loop-again Inv-loop μ-loop
 loop-again c =
     let l = c .before .before .before .before .before .before .before .loop in
-    (refl, l .inv .1, parted-more (l .inv .2) _ _ _ (c .before .before .before .wide16 .ensures) (omega arith) (c .before .before .put-body .ensures))
+    (refl, l .inv .1, parted-more (l .inv .2) _ _ _ (c .before .before .before .half .ensures .value) (omega arith) (c .before .before .put-body .ensures))
 
 same-length : tie.Need-same-length Inv-loop μ-loop
 same-length c = parted-size (c .before .loop .inv .2)
@@ -59,9 +59,9 @@ put-bodies-spec =
     Inv-loop
     μ-loop
     loop-holds
-    mul-wide16
-    shared-slice-read-wide16
-    wide16-requires
+    mul-half
+    shared-slice-read-half
+    half-requires
     put-body-requires
     add-i
     loop-less

@@ -5,14 +5,14 @@ use borrow.Author.Needs.{needs}
 use Rattle.lines.proofs.write.put_record.Statement.{statement}
 use Rattle.lines.proofs.write.put_record.Tie as tie
 
-mul-wide32 : tie.Need-mul-wide32
-mul-wide32 c = search needs
+mul-word : tie.Need-mul-word
+mul-word c = search needs
 
-shared-slice-read-wide32 : tie.Need-shared-slice-read-wide32
-shared-slice-read-wide32 c = search needs
+shared-slice-read-word : tie.Need-shared-slice-read-word
+shared-slice-read-word c = search needs
 
-wide32-requires : tie.Need-wide32-requires
-wide32-requires c κs = search needs
+word-requires : tie.Need-word-requires
+word-requires c κs = search needs
 
 put-half-requires : tie.Need-put-half-requires
 put-half-requires c κs = search needs
@@ -30,15 +30,15 @@ returns : tie.Need-returns
 returns c =
     let b = c .before .before .before in
     let w = b .before .before .before .before .before in
-    record-put _ _ _ _ _ _ _ _ _ _ (omega arith) (w .wide32 .ensures) (b .body-length .ensures) (b .before .before .before .before .put-half .ensures) (c .before .before .put-half2 .ensures)
+    record-put _ _ _ _ _ _ _ _ _ _ (omega arith) (w .word .ensures .value) (b .body-length .ensures) (b .before .before .before .before .put-half .ensures) (c .before .before .put-half2 .ensures)
 
 pub put-record-spec : {M : Type 1} → statement M
 put-record-spec =
     tie.close
     (tie.spec
-    mul-wide32
-    shared-slice-read-wide32
-    wide32-requires
+    mul-word
+    shared-slice-read-word
+    word-requires
     put-half-requires
     body-length-requires
     put-half-requires-2

@@ -38,14 +38,14 @@ returns c =
     placed (c .bad-word .ensures) (omega arith)
     ∙ stop _ _ _ _ (word-bad t (omega arith) (c .before .before .awaited-at .ensures .value) (c .before .before .before .claim-count .ensures .value) (c .before .if1 .taken))
 
-mul-wide : tie.Need-mul-wide
-mul-wide c = search needs
+mul-word : tie.Need-mul-word
+mul-word c = search needs
 
-element-copy-out-wide : tie.Need-element-copy-out-wide
-element-copy-out-wide c = search needs
+element-copy-out-word : tie.Need-element-copy-out-word
+element-copy-out-word c = search needs
 
-wide-requires : tie.Need-wide-requires
-wide-requires c κs = search needs
+word-requires : tie.Need-word-requires
+word-requires c κs = search needs
 
 answered-at-requires : tie.Need-answered-at-requires
 unfolding jobOf
@@ -77,7 +77,7 @@ returns-2 c =
     let c₃ = c₂ .before in
     let c₄ = c₃ .before .before .before in
     let t = c₄ .args .table .now in
-    let n = c .before .before .before .wide .ensures .value ∙ c₄ .pre .1 .0 (c₄ .args .w) (omega arith) in
+    let n = c .before .before .before .word .ensures .value ∙ c₄ .pre .1 .0 (c₄ .args .w) (omega arith) in
     placed (c .bad-word2 .ensures) (omega arith)
     ∙ pass _ _ _ _ (word-good t (omega arith) (c₂ .awaited-at .ensures .value) (c₃ .claim-count .ensures .value) (c₁ .if1 .left))
     (stop _ _ _ _ (word-bad t (omega arith) (c .before .before .answered-at .ensures .value) n (c .before .if2 .taken)))
@@ -90,7 +90,7 @@ returns-3 c =
     let c₃ = c₂ .before in
     let c₄ = c₃ .before .before .before in
     let t = c₄ .args .table .now in
-    let n = c .before .before .wide .ensures .value ∙ c₄ .pre .1 .0 (c₄ .args .w) (omega arith) in
+    let n = c .before .before .word .ensures .value ∙ c₄ .pre .1 .0 (c₄ .args .w) (omega arith) in
     pass _ _ _ _ (word-good t (omega arith) (c₂ .awaited-at .ensures .value) (c₃ .claim-count .ensures .value) (c₁ .if1 .left))
     (pass _ _ _ _ (word-good t (omega arith) (c .before .answered-at .ensures .value) n (c .if2 .left)) refl)
 
@@ -106,9 +106,9 @@ check-worker-spec =
     add-bad-word-2
     bad-word-requires
     returns
-    mul-wide
-    element-copy-out-wide
-    wide-requires
+    mul-word
+    element-copy-out-word
+    word-requires
     answered-at-requires
     mul-bad-word-3
     add-bad-word-3
