@@ -21,7 +21,7 @@ use Rattle.base.proofs.Choose.{pick-true, pick-false}
 use Rattle.base.proofs.Span.{length-span, span-snoc}
 use Rattle.job.specs.Job.{Rule, literalsOf, ruleEnd, mostLiterals}
 use Rattle.job.specs.Format.{rules, headAt, headBefore, bodyStart, bodyLengthAt, literalAt, ruleAt, jobOf}
-use Rattle.job.specs.Claims.{literalsBelow, claimStart, boundAt, Bounds, Index, endFrom, endIn}
+use Rattle.job.specs.Claims.{literalsBelow, claimStart, boundsFrom, indexEntries, boundAt, Bounds, Index, endFrom, endIn}
 use Rattle.job.specs.Accepted.{WellFormed}
 use Rattle.job.proofs.FieldBits.{bit-set, bit-kept}
 use Rattle.job.proofs.Parts.{rises, bodyStart-next, body-within}
@@ -150,19 +150,19 @@ end-in s index w x c k l =
     in-rule s index w (x .bounds) (p .rule) (p .there) (claimStart s c + k) (p .from) (p .to) ∙ sym (p .end)
 
 -- an index as it is filled: at first no rule ends anywhere, then one more does, and what is written of claims changes none
-bound-zero : (i : ℕ) → i ≤ mostLiterals → boundAt (replicate 5122 0) i ≡ false
+bound-zero : (i : ℕ) → boundsFrom + i / 16 < indexEntries → boundAt (replicate indexEntries 0) i ≡ false
 bound-zero i l =
-    ap (λ (x : ℕ). not (eqb (x / 2 ^ (i % 16) % 2) 0)) (getD-replicate 5122 (4097 + i / 16) 0 0 (omega arith))
+    ap (λ (x : ℕ). not (eqb (x / 2 ^ (i % 16) % 2) 0)) (getD-replicate indexEntries (boundsFrom + i / 16) 0 0 l)
     ∙ ap (λ (x : ℕ). not (eqb (x % 2) 0)) (zero-div (2 ^ (i % 16)))
 
-pub bounds-start : (s : List ℕ) {index : List ℕ} → index ≡ replicate 5122 0 → Bounds s index 0
+pub bounds-start : (s : List ℕ) {index : List ℕ} → index ≡ replicate indexEntries 0 → Bounds s index 0
 bounds-start s e = record { ends = λ r l. absurd (omega arith); only = λ i l f. ap (λ (x : List ℕ). boundAt x i) e ∙ bound-zero i l }
 
-module _ {s index : List ℕ} {m : ℕ} (b : Bounds s index m) (long : length index ≡ 5122) where
-  bound-other : (i d v : ℕ) → (4097 + i / 16 ≡ d → ⊥) → boundAt (set index d v) i ≡ boundAt index i
-  bound-other i d v n = ap (λ (x : ℕ). not (eqb (x / 2 ^ (i % 16) % 2) 0)) (getD-set-other index d (4097 + i / 16) v 0 n)
+module _ {s index : List ℕ} {m : ℕ} (b : Bounds s index m) (long : length index ≡ indexEntries) where
+  bound-other : (i d v : ℕ) → (boundsFrom + i / 16 ≡ d → ⊥) → boundAt (set index d v) i ≡ boundAt index i
+  bound-other i d v n = ap (λ (x : ℕ). not (eqb (x / 2 ^ (i % 16) % 2) 0)) (getD-set-other index d (boundsFrom + i / 16) v 0 n)
 
-  pub bounds-kept : (d v : ℕ) → d < 4097 → Bounds s (set index d v) m
+  pub bounds-kept : (d v : ℕ) → d < boundsFrom → Bounds s (set index d v) m
   bounds-kept d v l =
       record {
         ends = λ r h. bound-other (bodyStart s (r + 1)) d v (λ e. omega arith) ∙ b .ends r h;
@@ -170,27 +170,27 @@ module _ {s index : List ℕ} {m : ℕ} (b : Bounds s index m) (long : length in
       }
 
   -- one more rule ends, at p
-  module _ (p : ℕ) (low : p ≤ mostLiterals) {v : ℕ} (put : v ≡ bitOr (getD index (4097 + p / 16) 0) (2 ^ (p % 16))) where
+  module _ (p : ℕ) (low : p ≤ mostLiterals) {v : ℕ} (put : v ≡ bitOr (getD index (boundsFrom + p / 16) 0) (2 ^ (p % 16))) where
     abbrev after : List ℕ
-    after = set index (4097 + p / 16) v
+    after = set index (boundsFrom + p / 16) v
 
-    there : getD after (4097 + p / 16) 0 ≡ bitOr (getD index (4097 + p / 16) 0) (2 ^ (p % 16))
-    there = getD-set-same index (4097 + p / 16) v 0 (omega arith) ∙ put
+    there : getD after (boundsFrom + p / 16) 0 ≡ bitOr (getD index (boundsFrom + p / 16) 0) (2 ^ (p % 16))
+    there = getD-set-same index (boundsFrom + p / 16) v 0 (omega arith) ∙ put
 
     now-bound : boundAt after p ≡ true
     now-bound =
         ap (λ (x : ℕ). not (eqb (x / 2 ^ (p % 16) % 2) 0)) there
-        ∙ ap (λ (x : ℕ). not (eqb x 0)) (bit-set (getD index (4097 + p / 16) 0) (p % 16))
+        ∙ ap (λ (x : ℕ). not (eqb x 0)) (bit-set (getD index (boundsFrom + p / 16) 0) (p % 16))
 
     still-bound : (i : ℕ) → (i ≡ p → ⊥) → boundAt after i ≡ boundAt index i
     still-bound i n =
         by-cases (ℕ-discrete (i / 16) (p / 16))
         (λ e.
-        let y : getD after (4097 + i / 16) 0 ≡ bitOr (getD index (4097 + i / 16) 0) (2 ^ (p % 16)) =
-        ap (λ (x : ℕ). getD after (4097 + x) 0) e ∙ (there ∙ ap (λ (x : ℕ). bitOr (getD index (4097 + x) 0) (2 ^ (p % 16))) (sym e)) in
+        let y : getD after (boundsFrom + i / 16) 0 ≡ bitOr (getD index (boundsFrom + i / 16) 0) (2 ^ (p % 16)) =
+        ap (λ (x : ℕ). getD after (boundsFrom + x) 0) e ∙ (there ∙ ap (λ (x : ℕ). bitOr (getD index (boundsFrom + x) 0) (2 ^ (p % 16))) (sym e)) in
         ap (λ (x : ℕ). not (eqb (x / 2 ^ (i % 16) % 2) 0)) y
-        ∙ ap (λ (x : ℕ). not (eqb x 0)) (bit-kept (getD index (4097 + i / 16) 0) (p % 16) (i % 16) (λ z. n (omega arith))))
-        (λ e. bound-other i (4097 + p / 16) v (λ z. e (omega arith)))
+        ∙ ap (λ (x : ℕ). not (eqb x 0)) (bit-kept (getD index (boundsFrom + i / 16) 0) (p % 16) (i % 16) (λ z. n (omega arith))))
+        (λ e. bound-other i (boundsFrom + p / 16) v (λ z. e (omega arith)))
 
     pub bounds-more : p ≡ bodyStart s (m + 1) → Bounds s after (m + 1)
     bounds-more e =

@@ -2,9 +2,10 @@
 --   literalsBelow s c m   the literals of those of m rules whose head is below c
 --   claimStart s c        where c's literals start among the job's, and those of c - 1 end
 --   Starts s index        entry c of an index is where c's literals start; the one past the last claim is where they end
---   boundAt index i       the bit of the job's literal i, bit i % 16 of entry 4097 + i / 16, says that a rule ends before it
---   Bounds s index m      it does where one of the first m rules ends, and nowhere else
---   Index s index         the index: both, of all rules
+--   boundsFrom            the entries from here on have a bit a literal, 16 to an entry; indexEntries   how many there are in all
+--   boundAt index i       the bit of the job's literal i says that a rule ends before it
+--   Bounds s index m      it does where one of the first m rules ends, and nowhere else, up to the last bit of the last entry
+--   Index s index         the index: both, of all rules, and 0 for the claims that the job hasn't. So each entry is said
 --   endIn index i         the first place past literal i that a rule ends before, by the index: where the literal's rule ends
 --   ClaimLiterals s c     the literals of c, over its rules in file order, are the part from claimStart s c to claimStart s (c + 1)
 --   cursorAt s c n        the cursor over claim c's literals that has passed n of them
@@ -18,7 +19,7 @@ use lib.ListN.{length, getD}
 use Rattle.base.specs.Choose.{pick}
 use Rattle.base.specs.Compare.{under}
 use Rattle.base.specs.Span.{span}
-use Rattle.job.specs.Job.{literalsOf, mostLiterals}
+use Rattle.job.specs.Job.{literalsOf, mostClaims, mostLiterals}
 use Rattle.job.specs.Format.{claims, rules, literals, headAt, bodyLengthAt, bodyStart, literalAt, jobOf}
 use Rattle.job.specs.declared.Cursor.{Cursor}
 
@@ -32,15 +33,22 @@ claimStart s c = literalsBelow s c (rules s)
 abbrev pub Starts : List ℕ → List ℕ → Type 0
 Starts s index = (c : ℕ) → c ≤ claims s → getD index c 0 ≡ claimStart s c
 
+abbrev pub boundsFrom : ℕ
+boundsFrom = mostClaims + 1
+
+abbrev pub indexEntries : ℕ
+indexEntries = boundsFrom + (mostLiterals / 16 + 1)
+
 abbrev pub boundAt : List ℕ → ℕ → Bool
-boundAt index i = not (eqb (getD index (4097 + i / 16) 0 / 2 ^ (i % 16) % 2) 0)
+boundAt index i = not (eqb (getD index (boundsFrom + i / 16) 0 / 2 ^ (i % 16) % 2) 0)
 
 pub record Bounds (s index : List ℕ) (m : ℕ) : Type 0 where
   pub ends : (r : ℕ) → r < m → boundAt index (bodyStart s (r + 1)) ≡ true
-  pub only : (i : ℕ) → i ≤ mostLiterals → ((r : ℕ) → r < m → bodyStart s (r + 1) ≡ i → ⊥) → boundAt index i ≡ false
+  pub only : (i : ℕ) → boundsFrom + i / 16 < indexEntries → ((r : ℕ) → r < m → bodyStart s (r + 1) ≡ i → ⊥) → boundAt index i ≡ false
 
 pub record Index (s index : List ℕ) : Type 0 where
   pub starts : Starts s index
+  pub none : (c : ℕ) → claims s < c → c < boundsFrom → getD index c 0 ≡ 0
   pub bounds : Bounds s index (rules s)
 
 unfoldable pub endFrom : ℕ → List ℕ → ℕ → ℕ

@@ -1,22 +1,23 @@
 -- `job::claims::index_claims` meets its contract. Assumes nothing.
 use Prim.Native.Nat.{ℕ, _+_, _-_, _≤_, _<_}
 use mathlib.Core.Path.{_≡_, refl, sym, _∙_, ap, subst}
+use mathlib.Core.List.{List}
 use mathlib.Core.Logic.{by-cases}
 use native.Mathlib.Omega.{arith}
 use native.Mathlib.Decide.{decLt}
 use borrow.Author.Count.{below-none, below-more}
-use lib.ListN.{length, getD, length-set, length-replicate}
+use lib.ListN.{length, getD, length-set, length-replicate, getD-replicate}
 use lib.Seq.{getD-set-other}
 use Rattle.job.proofs.Contiguous.{starts-here, rule-there, rule-below, rule-past, index-more}
 use Rattle.job.proofs.IndexEnds.{bounds-start, bounds-more, bounds-kept}
 use Rattle.job.proofs.Parts.{bodyStart-next, body-within}
-use Rattle.job.specs.Claims.{claimStart, Bounds}
+use Rattle.job.specs.Claims.{claimStart, boundsFrom, indexEntries, Bounds}
 use Rattle.job.specs.Format.{claims, rules, literals, headAt, bodyStart}
 use Rattle.job.proofs.claims.index_claims.Statement.{statement}
 use Rattle.job.proofs.claims.index_claims.Tie as tie
 
 abbrev Inv-loop : tie.InvT-loop
-Inv-loop job claims′ rules′ index₀ i₀ claim₀ passed₀ index i claim passed = (length index ≡ 5122) × (i ≤ rules job) × (claim ≤ claims job + 1) × (passed ≡ bodyStart job i) × (passed ≤ literals job) × ((j : ℕ) → j < i → headAt job j < claim) × ((d : ℕ) → d < claim → getD index d 0 ≡ claimStart job d) × Bounds job index i × (claims job < claim → i ≡ rules job)
+Inv-loop job claims′ rules′ index₀ i₀ claim₀ passed₀ index i claim passed = (length index ≡ indexEntries) × (i ≤ rules job) × (claim ≤ claims job + 1) × (passed ≡ bodyStart job i) × (passed ≤ literals job) × ((j : ℕ) → j < i → headAt job j < claim) × ((d : ℕ) → d < claim → getD index d 0 ≡ claimStart job d) × Bounds job index i × (claims job < claim → i ≡ rules job) × ((d : ℕ) → claim ≤ d → d < boundsFrom → getD index d 0 ≡ 0)
 
 abbrev μ-loop : tie.MeasureT-loop
 μ-loop job claims′ rules′ index₀ i₀ claim₀ passed₀ index i claim passed = (rules job - i) + (claims job + 1 - claim)
@@ -33,7 +34,7 @@ no-index-requires c κs = omega arith
 loop-holds : tie.Need-loop-holds Inv-loop μ-loop
 unfolding bodyStart
 loop-holds c =
-    (ap length (c .no-index .ensures) ∙ length-replicate {A = ℕ} 5122 0, omega arith, omega arith, refl, omega arith, below-none _, below-none _, bounds-start _ (c .no-index .ensures), λ h. absurd (omega arith))
+    (ap length (c .no-index .ensures) ∙ length-replicate {A = ℕ} indexEntries 0, omega arith, omega arith, refl, omega arith, below-none _, below-none _, bounds-start _ (c .no-index .ensures), λ h. absurd (omega arith), λ d a b. ap (λ (x : List ℕ). getD x d 0) (c .no-index .ensures) ∙ getD-replicate indexEntries d 0 0 (omega arith))
 
 head-below-requires : tie.Need-head-below-requires Inv-loop μ-loop
 head-below-requires c κs = omega arith
@@ -97,6 +98,7 @@ loop-again c =
       λ d b. getD-set-other (l .index) _ d _ 0 (λ e. omega (arith, l .inv .2, c₃ .pre .sized .claimsMost)) ∙ l .inv .6 d b,
       bounds-more (l .inv .7) (l .inv .0) _ (within (c .before)) (c .with-bit .ensures) (omega arith),
       λ b. absurd (omega (arith, l .inv .8 b)),
+      λ d a b. getD-set-other (l .index) _ d _ 0 (λ e. omega arith) ∙ l .inv .9 d a b,
     )
 
 cast-index : tie.Need-cast-index Inv-loop μ-loop
@@ -130,13 +132,14 @@ loop-again-2 c =
       index-more s (l .index) (l .claim) (l .passed) (omega arith) (l .inv .3 ∙ sym (starts-here s (rules s) (c₂ .pre .rise) (l .claim) (l .i) (l .inv .1) (l .inv .5) past)) (l .inv .6),
       bounds-kept (l .inv .7) (l .inv .0) (l .claim) _ (omega (arith, c₂ .pre .sized .claimsMost)),
       λ b. by-cases (decLt (l .i) (rules s)) (λ m. absurd (omega (arith, past m, c₂ .pre .head (l .i) m))) (λ m. omega (arith, l .inv .1)),
+      λ d a b. getD-set-other (l .index) (l .claim) d _ 0 (λ e. omega arith) ∙ l .inv .9 d (omega arith) b,
     )
 
 returns : tie.Need-returns Inv-loop μ-loop
 returns c =
     let l = c .before .loop in
     let e = l .inv .8 (omega arith) in
-    record { starts = λ d b. l .inv .6 d (omega arith); bounds = subst (Bounds _ (l .index)) e (l .inv .7) }
+    record { starts = λ d b. l .inv .6 d (omega arith); none = λ d a b. l .inv .9 d (omega arith) b; bounds = subst (Bounds _ (l .index)) e (l .inv .7) }
 
 pub index-claims-spec : {M : Type 1} → statement M
 index-claims-spec =

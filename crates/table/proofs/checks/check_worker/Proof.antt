@@ -77,7 +77,7 @@ returns-2 c =
     let c₃ = c₂ .before in
     let c₄ = c₃ .before .before .before in
     let t = c₄ .args .table .now in
-    let n = c .before .before .before .word .ensures .value ∙ c₄ .pre .1 .0 (c₄ .args .w) (omega arith) in
+    let n = c .before .before .before .word .ensures .value ∙ c₄ .pre .1 .0 .counts (c₄ .args .w) (omega arith) in
     placed (c .bad-word2 .ensures) (omega arith)
     ∙ pass _ _ _ _ (word-good t (omega arith) (c₂ .awaited-at .ensures .value) (c₃ .claim-count .ensures .value) (c₁ .if1 .left))
     (stop _ _ _ _ (word-bad t (omega arith) (c .before .before .answered-at .ensures .value) n (c .before .if2 .taken)))
@@ -90,7 +90,7 @@ returns-3 c =
     let c₃ = c₂ .before in
     let c₄ = c₃ .before .before .before in
     let t = c₄ .args .table .now in
-    let n = c .before .before .word .ensures .value ∙ c₄ .pre .1 .0 (c₄ .args .w) (omega arith) in
+    let n = c .before .before .word .ensures .value ∙ c₄ .pre .1 .0 .counts (c₄ .args .w) (omega arith) in
     pass _ _ _ _ (word-good t (omega arith) (c₂ .awaited-at .ensures .value) (c₃ .claim-count .ensures .value) (c₁ .if1 .left))
     (pass _ _ _ _ (word-good t (omega arith) (c .before .answered-at .ensures .value) n (c .if2 .left)) refl)
 
