@@ -196,26 +196,17 @@ fn check_header(job: &[u8]) -> Check
     ensures { λ r. ⌜ r ≡ checkHeader (now (job .entry)) ⌝ }
 {
     let length = check_length(job);
-    if let Check::Refused {
-        number: _,
-        place: _,
-    } = length {
+    let Check::Accepted = length else {
         return length;
-    }
+    };
     let total = check_total(job);
-    if let Check::Refused {
-        number: _,
-        place: _,
-    } = total {
+    let Check::Accepted = total else {
         return total;
-    }
+    };
     let counts = check_counts(job);
-    if let Check::Refused {
-        number: _,
-        place: _,
-    } = counts {
+    let Check::Accepted = counts else {
         return counts;
-    }
+    };
     check_offsets(job)
 }
 
@@ -225,26 +216,17 @@ fn check_parts(job: &[u8]) -> Check
     ensures { λ r. ⌜ r ≡ checkParts (now (job .entry)) ⌝ }
 {
     let heads = check_heads(job);
-    if let Check::Refused {
-        number: _,
-        place: _,
-    } = heads {
+    let Check::Accepted = heads else {
         return heads;
-    }
+    };
     let bodies = check_bodies(job);
-    if let Check::Refused {
-        number: _,
-        place: _,
-    } = bodies {
+    let Check::Accepted = bodies else {
         return bodies;
-    }
+    };
     let literals = check_literals(job);
-    if let Check::Refused {
-        number: _,
-        place: _,
-    } = literals {
+    let Check::Accepted = literals else {
         return literals;
-    }
+    };
     check_questions(job)
 }
 
@@ -254,11 +236,8 @@ pub fn check_job(job: &[u8]) -> Check
     ensures { λ r. ⌜ Reading ⌝ }
 {
     let header = check_header(job);
-    if let Check::Refused {
-        number: _,
-        place: _,
-    } = header {
+    let Check::Accepted = header else {
         return header;
-    }
+    };
     check_parts(job)
 }

@@ -38,12 +38,9 @@ fn check_counts(text: &[u8], room: usize) -> Counted
     let counted = numbers::count_numbers(text);
     let check = counted.check;
     let tally = counted.tally;
-    if let Check::Refused {
-        number: _,
-        place: _,
-    } = check {
+    let Check::Accepted = check else {
         return counted;
-    }
+    };
     Counted {
         check: check_room(room, tally),
         tally,
@@ -56,14 +53,11 @@ pub fn check_lines(text: &[u8], room: usize) -> Counted
     ensures { λ r. ⌜ (r .check ≡ Check.Accepted → r .tally ≡ countedAll (now (text .entry)) .tally) ⌝ }
 {
     let fit = fits::check_fit(text);
-    if let Check::Refused {
-        number: _,
-        place: _,
-    } = fit {
+    let Check::Accepted = fit else {
         return Counted {
             check: fit,
             tally: numbers::nothing(),
         };
-    }
+    };
     check_counts(text, room)
 }

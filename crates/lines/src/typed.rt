@@ -15,12 +15,9 @@ pub fn job_of_lines(text: &[u8], out: &mut [u8]) -> TypedJob
     let counted = room::check_lines(text, out.len());
     let check = counted.check;
     let tally = counted.tally;
-    if let Check::Refused {
-        number: _,
-        place: _,
-    } = check {
+    let Check::Accepted = check else {
         return TypedJob { check, length: 0 };
-    }
+    };
     TypedJob {
         check,
         length: write::put_job(out, text, tally),

@@ -13,12 +13,12 @@ check-heads-requires c κs = search needs
 enum-told : tie.Need-enum-told
 enum-told c = search needs
 
-returns : tie.Need-returns
-unfolding checkParts
-returns c = halt _ _ (c .enum-told .given .1) (c .before .before .check-heads .ensures)
-
 enum-told-2 : tie.Need-enum-told-2
 enum-told-2 c = search needs
+
+returns : tie.Need-returns
+unfolding checkParts
+returns c = halt _ _ (c .enum-told2 .given .1) (c .before .before .check-heads .ensures)
 
 check-bodies-requires : tie.Need-check-bodies-requires
 check-bodies-requires c κs = search needs
@@ -26,19 +26,22 @@ check-bodies-requires c κs = search needs
 enum-told-3 : tie.Need-enum-told-3
 enum-told-3 c = search needs
 
-returns-2 : tie.Need-returns-2
-unfolding checkParts
-returns-2 c =
-    go _ _ (c .before .before .before .enum-told2 .given .1) (c .before .before .before .before .before .check-heads .ensures) (halt _ _ (c .enum-told3 .given .1) (c .before .before .check-bodies .ensures))
-
 enum-told-4 : tie.Need-enum-told-4
 enum-told-4 c = search needs
 
+returns-2 : tie.Need-returns-2
+unfolding checkParts
+returns-2 c =
+    go _ _ (c .before .before .before .enum-told .given .1) (c .before .before .before .before .before .check-heads .ensures) (halt _ _ (c .enum-told4 .given .1) (c .before .before .check-bodies .ensures))
+
 check-literals-requires : tie.Need-check-literals-requires
-check-literals-requires c κs = (c .before .before .before .before .before .before .before .pre, bodies-sum _ (sym (c .enum-told4 .given .1) ∙ c .before .before .check-bodies .ensures))
+check-literals-requires c κs = (c .before .before .before .before .before .before .before .pre, bodies-sum _ (sym (c .enum-told3 .given .1) ∙ c .before .before .check-bodies .ensures))
 
 enum-told-5 : tie.Need-enum-told-5
 enum-told-5 c = search needs
+
+enum-told-6 : tie.Need-enum-told-6
+enum-told-6 c = search needs
 
 returns-3 : tie.Need-returns-3
 unfolding checkParts
@@ -46,11 +49,8 @@ returns-3 c =
     let c₁ = c .before .before .before .before .before in
     let c₂ = c₁ .before in
     let c₃ = c₂ .before .before in
-    go _ _ (c₂ .enum-told2 .given .1) (c₃ .check-heads .ensures)
-    (go _ _ (c .before .before .before .enum-told4 .given .1) (c₁ .check-bodies .ensures) (halt _ _ (c .enum-told5 .given .1) (c .before .before .check-literals .ensures)))
-
-enum-told-6 : tie.Need-enum-told-6
-enum-told-6 c = search needs
+    go _ _ (c₂ .enum-told .given .1) (c₃ .check-heads .ensures)
+    (go _ _ (c .before .before .before .enum-told3 .given .1) (c₁ .check-bodies .ensures) (halt _ _ (c .enum-told6 .given .1) (c .before .before .check-literals .ensures)))
 
 check-questions-requires : tie.Need-check-questions-requires
 check-questions-requires c κs = search needs
@@ -62,9 +62,9 @@ returns-4 c =
     let c₂ = c₁ .before .before in
     let c₃ = c₂ .before in
     let c₄ = c₃ .before .before in
-    go _ _ (c₃ .enum-told2 .given .1) (c₄ .check-heads .ensures)
-    (go _ _ (c₁ .enum-told4 .given .1) (c₂ .check-bodies .ensures)
-    (go _ _ (c .before .enum-told6 .given .1) (c .before .before .before .check-literals .ensures) (c .check-questions .ensures)))
+    go _ _ (c₃ .enum-told .given .1) (c₄ .check-heads .ensures)
+    (go _ _ (c₁ .enum-told3 .given .1) (c₂ .check-bodies .ensures)
+    (go _ _ (c .before .enum-told5 .given .1) (c .before .before .before .check-literals .ensures) (c .check-questions .ensures)))
 
 pub check-parts-spec : {M : Type 1} → statement M
 check-parts-spec =
@@ -72,15 +72,15 @@ check-parts-spec =
     (tie.spec
     check-heads-requires
     enum-told
-    returns
     enum-told-2
+    returns
     check-bodies-requires
     enum-told-3
-    returns-2
     enum-told-4
+    returns-2
     check-literals-requires
     enum-told-5
-    returns-3
     enum-told-6
+    returns-3
     check-questions-requires
     returns-4)

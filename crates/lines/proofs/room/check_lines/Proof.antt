@@ -13,22 +13,22 @@ check-fit-requires c κs = search needs
 enum-told : tie.Need-enum-told
 enum-told c = search needs
 
+enum-told-2 : tie.Need-enum-told-2
+enum-told-2 c = search needs
+
 nothing-requires : tie.Need-nothing-requires
 nothing-requires c κs = search needs
 
 returns : tie.Need-returns
 unfolding checkText
-returns c = (halt _ _ (c .before .enum-told .given .1) (c .before .before .before .check-fit .ensures), λ e. never (sym e ∙ c .before .enum-told .given .1))
-
-enum-told-2 : tie.Need-enum-told-2
-enum-told-2 c = search needs
+returns c = (halt _ _ (c .before .enum-told2 .given .1) (c .before .before .before .check-fit .ensures), λ e. never (sym e ∙ c .before .enum-told2 .given .1))
 
 check-counts-requires : tie.Need-check-counts-requires
 check-counts-requires c κs = search needs
 
 returns-2 : tie.Need-returns-2
 unfolding checkText
-returns-2 c = (go _ _ (c .before .enum-told2 .given .1) (c .before .before .before .check-fit .ensures) (c .check-counts .ensures .0), λ e. c .check-counts .ensures .1)
+returns-2 c = (go _ _ (c .before .enum-told .given .1) (c .before .before .before .check-fit .ensures) (c .check-counts .ensures .0), λ e. c .check-counts .ensures .1)
 
 pub check-lines-spec : {M : Type 1} → statement M
 check-lines-spec =
@@ -36,8 +36,8 @@ check-lines-spec =
     (tie.spec
     check-fit-requires
     enum-told
+    enum-told-2
     nothing-requires
     returns
-    enum-told-2
     check-counts-requires
     returns-2)

@@ -30,14 +30,14 @@ check-claim-requires c κs = let p = c .before .before .before .before .before .
 enum-told : tie.Need-enum-told Inv-loop μ-loop
 enum-told c = search needs
 
+enum-told-2 : tie.Need-enum-told-2 Inv-loop μ-loop
+enum-told-2 c = search needs
+
 returns : tie.Need-returns Inv-loop μ-loop
 unfolding jobOf
 returns c =
     let l = c .before .before .before .before .loop in
-    each-at _ _ (l .c) (omega arith) (l .inv .1) (c .enum-told .given .1) (c .before .before .check-claim .ensures)
-
-enum-told-2 : tie.Need-enum-told-2 Inv-loop μ-loop
-enum-told-2 c = search needs
+    each-at _ _ (l .c) (omega arith) (l .inv .1) (c .enum-told2 .given .1) (c .before .before .check-claim .ensures)
 
 add-c : tie.Need-add-c Inv-loop μ-loop
 add-c c = omega arith
@@ -48,7 +48,7 @@ loop-less c = omega arith
 loop-again : tie.Need-loop-again Inv-loop μ-loop
 loop-again c =
     let l = c .before .before .before .before .loop in
-    (omega arith, below-more _ _ (l .inv .1) (sym (c .enum-told2 .given .1) ∙ c .before .before .check-claim .ensures))
+    (omega arith, below-more _ _ (l .inv .1) (sym (c .enum-told .given .1) ∙ c .before .before .check-claim .ensures))
 
 returns-2 : tie.Need-returns-2 Inv-loop μ-loop
 unfolding jobOf
@@ -64,8 +64,8 @@ check-claims-spec =
     loop-holds
     check-claim-requires
     enum-told
-    returns
     enum-told-2
+    returns
     add-c
     loop-less
     loop-again

@@ -33,14 +33,14 @@ check-worker-requires c κs = let p = c .before .before .before .before .before 
 enum-told : tie.Need-enum-told Inv-loop μ-loop
 enum-told c = search needs
 
+enum-told-2 : tie.Need-enum-told-2 Inv-loop μ-loop
+enum-told-2 c = search needs
+
 returns : tie.Need-returns Inv-loop μ-loop
 unfolding jobOf
 returns c =
     let l = c .before .before .before .before .before .loop in
-    each-at _ _ (l .w) (omega arith) (l .inv .1) (c .enum-told .given .1) (c .before .before .check-worker .ensures)
-
-enum-told-2 : tie.Need-enum-told-2 Inv-loop μ-loop
-enum-told-2 c = search needs
+    each-at _ _ (l .w) (omega arith) (l .inv .1) (c .enum-told2 .given .1) (c .before .before .check-worker .ensures)
 
 add-w : tie.Need-add-w Inv-loop μ-loop
 add-w c = omega arith
@@ -51,7 +51,7 @@ loop-less c = omega arith
 loop-again : tie.Need-loop-again Inv-loop μ-loop
 loop-again c =
     let l = c .before .before .before .before .before .loop in
-    (omega arith, below-more _ _ (l .inv .1) (sym (c .enum-told2 .given .1) ∙ c .before .before .check-worker .ensures))
+    (omega arith, below-more _ _ (l .inv .1) (sym (c .enum-told .given .1) ∙ c .before .before .check-worker .ensures))
 
 returns-2 : tie.Need-returns-2 Inv-loop μ-loop
 unfolding jobOf
@@ -68,8 +68,8 @@ check-workers-spec =
     loop-holds
     check-worker-requires
     enum-told
-    returns
     enum-told-2
+    returns
     add-w
     loop-less
     loop-again
