@@ -14,19 +14,19 @@ use Rattle.base.specs.Choose.{pick}
 use Rattle.base.specs.Compare.{under, over, differs}
 use Rattle.base.proofs.Compare.{under-yes, under-no, over-yes, over-no}
 use Rattle.job.specs.Job.{Job, literalsOf}
-use Rattle.table.specs.Layout.{mark, cursor, number, fresh}
+use Rattle.table.specs.Layout.{mark, cursor, number, trueMark, undefinedMark, fresh}
 use Rattle.table.specs.Ranges.{badMark, badCursor, badNumber}
 
 module _ (m w : ℕ) where
-  pub mark-worker : m ≤ w → false ≡ (over m w && (under m 256 || over m 258))
+  pub mark-worker : m ≤ w → false ≡ (over m w && (under m trueMark || over m undefinedMark))
   mark-worker h = rw (over-no m w h)
 
-  pub mark-between : w < m → m < 256 → true ≡ (over m w && (under m 256 || over m 258))
-  mark-between h l = rw (over-yes m w h, under-yes m 256 l)
+  pub mark-between : w < m → m < trueMark → true ≡ (over m w && (under m trueMark || over m undefinedMark))
+  mark-between h l = rw (over-yes m w h, under-yes m trueMark l)
 
-  pub mark-past : w < m → 256 ≤ m → ltb 258 m ≡ (over m w && (under m 256 || over m 258))
+  pub mark-past : w < m → trueMark ≤ m → ltb undefinedMark m ≡ (over m w && (under m trueMark || over m undefinedMark))
   unfolding over
-  mark-past h l = rw (over-yes m w h, under-no m 256 l)
+  mark-past h l = rw (over-yes m w h, under-no m trueMark l)
 
 module _ (t : List ℕ) (c : ℕ) {m : ℕ} (e : m ≡ mark t c) where
   pub marked-yes : (m ≡ 0 → ⊥) → not (fresh t c) ≡ true

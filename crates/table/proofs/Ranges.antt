@@ -17,7 +17,7 @@ use Rattle.base.proofs.Compare.{under-no, under-le, over-yes, over-no, over-le,
 use Rattle.job.specs.Job.{Job, literalsOf}
 use Rattle.job.specs.declared.Check.the-variants.{Accepted}
 use Rattle.job.proofs.Rows.{both, join, pass, row-no, scan-all, scan-none}
-use Rattle.table.specs.Layout.{used, mark, cursor, number}
+use Rattle.table.specs.Layout.{used, mark, cursor, number, trueMark, undefinedMark}
 use Rattle.table.specs.Ranges.{checkRoom, checkClaim, checkWorker, checkWords, checkTable, ClaimInRange, InRange}
 use Rattle.table.proofs.Each.{each-none, each-all, row-pass}
 
@@ -26,16 +26,16 @@ unfolding checkRoom
 enough-room j t e = under-le _ _ (row-no _ _ _ (both _ _ e .0))
 
 -- a mark m of a table for w workers
-mark-in : (m w : ℕ) → (over m w && (under m 256 || over m 258)) ≡ false → (m ≤ w) ⊎ ((256 ≤ m) × (m ≤ 258))
+mark-in : (m w : ℕ) → (over m w && (under m trueMark || over m undefinedMark)) ≡ false → (m ≤ w) ⊎ ((trueMark ≤ m) × (m ≤ undefinedMark))
 mark-in m w e =
     by-cases (decLt w m)
-    (λ h. let p = neither (under m 256) (over m 258) (and-rest (over m w) _ e (over-yes m w h)) in inr (under-le _ _ (p .0), over-le _ _ (p .1)))
+    (λ h. let p = neither (under m trueMark) (over m undefinedMark) (and-rest (over m w) _ e (over-yes m w h)) in inr (under-le _ _ (p .0), over-le _ _ (p .1)))
     (λ h. inl (omega arith))
 
-in-mark : (m w : ℕ) → (m ≤ w) ⊎ ((256 ≤ m) × (m ≤ 258)) → (over m w && (under m 256 || over m 258)) ≡ false
+in-mark : (m w : ℕ) → (m ≤ w) ⊎ ((trueMark ≤ m) × (m ≤ undefinedMark)) → (over m w && (under m trueMark || over m undefinedMark)) ≡ false
 in-mark m w s =
     ⊎-elim (λ h. rw (over-no m w h))
-    (λ h. and-no (over m w) _ (or-no (under m 256) (over m 258) (under-no _ _ (h .0)) (over-no _ _ (h .1)))) s
+    (λ h. and-no (over m w) _ (or-no (under m trueMark) (over m undefinedMark) (under-no _ _ (h .0)) (over-no _ _ (h .1)))) s
 
 -- a word x that is at most l, and 0 where the mark m is
 module _ (m x l : ℕ) where

@@ -4,7 +4,7 @@
 --   start-header, -zero, -rest   a word of the header, another word used, a word past those
 --   start-mark, ..      what the words of claims, workers and questions hold
 --   started-in-range    a started table is in range
-use Prim.Native.Nat.{ℕ, zero, suc, _+_, _*_, _-_, _<_, _≤_}
+use Prim.Native.Nat.{ℕ, zero, suc, _+_, _-_, _<_, _≤_}
 use mathlib.Core.Path.{_≡_, refl, sym, _∙_, ap, ap₂}
 use mathlib.Core.Bool.{not}
 use mathlib.Core.List.{List, _∷_, _++_}
@@ -17,7 +17,7 @@ use Rattle.base.specs.Sets.{count, one}
 use Rattle.base.specs.Span.{span}
 use Rattle.base.proofs.Span.{span-add}
 use Rattle.job.specs.Job.{Job}
-use Rattle.table.specs.Layout.{used, header, opened, mark, cursor, number, awaited, answered, answerWord, fresh}
+use Rattle.table.specs.Layout.{used, fixedWords, header, openedWord, opened, mark, cursor, number, awaited, answered, answer, fresh}
 use Rattle.table.specs.Ranges.{marked, InRange}
 use Rattle.table.specs.Start.{startWords}
 
@@ -26,23 +26,23 @@ unfolding span
 span-zeros f a zero h = refl
 span-zeros f a (suc n) h = ap₂ _∷_ (h a (omega arith)) (span-zeros f (suc a) n (λ k l. h k (omega arith)))
 
--- how many words follow the seven of the header
+-- how many words follow those of the header that never change
 abbrev rest : Job → ℕ
-rest j = 1 + 3 * j .claims + 2 * j .workers + length (j .questions)
+rest j = used j - fixedWords
 
-seven : (j : Job) → length (header j) ≡ 7
+fixed : (j : Job) → length (header j) ≡ fixedWords
 unfolding header
-seven j = refl
+fixed j = refl
 
-pub header-length : (j : Job) {h : List ℕ} → h ≡ header j → length h ≡ 7
-header-length j e = ap length e ∙ seven j
+pub header-length : (j : Job) {h : List ℕ} → h ≡ header j → length h ≡ fixedWords
+header-length j e = ap length e ∙ fixed j
 
-seven-span : (j : Job) → span (λ k. getD (header j) k 0) 0 7 ≡ header j
+fixed-span : (j : Job) → span (λ k. getD (header j) k 0) 0 fixedWords ≡ header j
 unfolding header span
-seven-span j = refl
+fixed-span j = refl
 
-past : (j : Job) (k : ℕ) → 7 ≤ k → getD (header j) k 0 ≡ 0
-past j k l = List·getD-eq-default (header j) 0 (omega (arith, seven j))
+past : (j : Job) (k : ℕ) → fixedWords ≤ k → getD (header j) k 0 ≡ 0
+past j k l = List·getD-eq-default (header j) 0 (omega (arith, fixed j))
 
 past-zeros : (n u : ℕ) (t : List ℕ) (i m : ℕ) → u ≤ i → m ≡ n + (i - u) → getD (replicate n 0 ++ drop u t) m 0 ≡ getD t i 0
 past-zeros n u t i m h e =
@@ -53,38 +53,38 @@ module _ (j : Job) (t : List ℕ) where
   pub start-written : {l h : List ℕ} {i : ℕ} → h ≡ header j → i ≡ used j → l ≡ span (λ k. getD h k 0) 0 i ++ drop i t → l ≡ startWords j t
   unfolding startWords
   start-written {l} {h} {i} e q w =
-      let n : used j ≡ 7 + rest j = omega arith in
+      let n : used j ≡ fixedWords + rest j = omega arith in
       w
       ∙ ap₂ (λ (x : List ℕ) (y : ℕ). span (λ k. getD x k 0) 0 y ++ drop y t) e q
-      ∙ ap (λ (x : List ℕ). x ++ drop (used j) t) (ap (span (λ k. getD (header j) k 0) 0) n ∙ (span-add (λ k. getD (header j) k 0) 0 7 (rest j) ∙ ap₂ _++_ (seven-span j) (span-zeros (λ k. getD (header j) k 0) 7 (rest j) (past j))))
+      ∙ ap (λ (x : List ℕ). x ++ drop (used j) t) (ap (span (λ k. getD (header j) k 0) 0) n ∙ (span-add (λ k. getD (header j) k 0) 0 fixedWords (rest j) ∙ ap₂ _++_ (fixed-span j) (span-zeros (λ k. getD (header j) k 0) fixedWords (rest j) (past j))))
 
   pub start-length : used j ≤ length t → length (startWords j t) ≡ length t
   unfolding startWords header
   start-length h = simp (length-append, length-replicate, length-drop) (omega arith)
 
-  pub start-header : (i : ℕ) → i < 7 → getD (startWords j t) i 0 ≡ getD (header j) i 0
+  pub start-header : (i : ℕ) → i < fixedWords → getD (startWords j t) i 0 ≡ getD (header j) i 0
   unfolding startWords header
-  start-header i h = List·getD-append (header j) (replicate (rest j) 0 ++ drop (used j) t) 0 i (omega (arith, seven j))
+  start-header i h = List·getD-append (header j) (replicate (rest j) 0 ++ drop (used j) t) 0 i (omega (arith, fixed j))
 
   -- past the header
-  after : (i : ℕ) → 7 ≤ i → getD (startWords j t) i 0 ≡ getD (replicate (rest j) 0 ++ drop (used j) t) (i - 7) 0
+  after : (i : ℕ) → fixedWords ≤ i → getD (startWords j t) i 0 ≡ getD (replicate (rest j) 0 ++ drop (used j) t) (i - fixedWords) 0
   unfolding startWords header
   after i h =
-      let e : i ≡ length (header j) + (i - 7) = omega (arith, seven j) in
+      let e : i ≡ length (header j) + (i - fixedWords) = omega (arith, fixed j) in
       ap (λ (x : ℕ). getD (header j ++ (replicate (rest j) 0 ++ drop (used j) t)) x 0) e
-      ∙ getD-append-add (header j) (replicate (rest j) 0 ++ drop (used j) t) (i - 7) 0
+      ∙ getD-append-add (header j) (replicate (rest j) 0 ++ drop (used j) t) (i - fixedWords) 0
 
-  pub start-zero : (i : ℕ) → 7 ≤ i → i < used j → getD (startWords j t) i 0 ≡ 0
+  pub start-zero : (i : ℕ) → fixedWords ≤ i → i < used j → getD (startWords j t) i 0 ≡ 0
   start-zero i h l =
       after i h
-      ∙ (List·getD-append (replicate (rest j) 0) (drop (used j) t) 0 (i - 7) (omega (arith, length-replicate {A = ℕ} (rest j) 0))
-      ∙ getD-replicate (rest j) (i - 7) 0 0 (omega arith))
+      ∙ (List·getD-append (replicate (rest j) 0) (drop (used j) t) 0 (i - fixedWords) (omega (arith, length-replicate {A = ℕ} (rest j) 0))
+      ∙ getD-replicate (rest j) (i - fixedWords) 0 0 (omega arith))
 
   pub start-rest : (i : ℕ) → used j ≤ i → getD (startWords j t) i 0 ≡ getD t i 0
-  start-rest i h = after i (omega arith) ∙ past-zeros (rest j) (used j) t i (i - 7) h (omega arith)
+  start-rest i h = after i (omega arith) ∙ past-zeros (rest j) (used j) t i (i - fixedWords) h (omega arith)
 
   pub start-opened : opened (startWords j t) ≡ 0
-  start-opened = start-zero 7 (omega arith) (omega arith)
+  start-opened = start-zero openedWord (omega arith) (omega arith)
 
   module _ (c : ℕ) (h : c < j .claims) where
     pub start-mark : mark (startWords j t) c ≡ 0
@@ -103,7 +103,7 @@ module _ (j : Job) (t : List ℕ) where
     pub start-answered : answered j (startWords j t) w ≡ 0
     start-answered = start-zero _ (omega arith) (omega arith)
 
-  pub start-answer : (k : ℕ) → k < length (j .questions) → getD (startWords j t) (answerWord j k) 0 ≡ 0
+  pub start-answer : (k : ℕ) → k < length (j .questions) → answer j (startWords j t) k ≡ 0
   start-answer k h = start-zero _ (omega arith) (omega arith)
 
 -- where no claim below n has a mark, none is counted

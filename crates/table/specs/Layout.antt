@@ -1,14 +1,19 @@
--- The words t of a table of job j (01, 'Table words').
---   used j               words used
---   header j             the first seven words, which never change
---   markWord c, ..       where each word stands: three of a claim, two of a worker, one of a question
---   mark t c, ..         what it holds
---   opened t             claims opened so far, the header's last word
+-- The words t of a table of job j (01, 'Table words'). Where each word stands is said here and in src/words.rt, and nowhere else.
+--   openedWord           the place of the header's last word; fixedWords   the words before it, which never change
+--   markWord c, ..       where the three words of claim c stand
+--   workersFrom a        where the words of a claims end, and those of workers start
+--   awaitedAt a w, ..    where the two words of worker w stand, in a table for a claims
+--   answerAt a t k       where the word of question k stands, in a table for a claims and t workers
+--   Place i              i is small enough to be a word's place in a slice
+--   awaitedWord j w, ..  the same places in a table of job j
+--   used j               words used; header j   the first seven words
+--   mark t c, ..         what each word holds; opened t   claims opened so far
+--   trueMark, ..         the marks of complete claims: valueBase and a value, which is 1 to mostValue
 --   fresh, complete, owned   a claim's state, by its mark. Open: an incomplete table entry; complete: a completed one
 --   valueOf m            the value that a mark shows: 1 to 3, or 0 where the claim is not complete
---   markOf v             the mark of a verdict
+--   markOfValue v        the mark of a value; markOf v   the mark of a verdict
 --   values j t           a value a claim
-use Prim.Native.Nat.{ℕ, _+_, _*_, _-_}
+use Prim.Native.Nat.{ℕ, _+_, _*_, _-_, _<_}
 use mathlib.Core.Bool.{Bool}
 use mathlib.Core.List.{List, [], _∷_}
 use lib.Dec.{leb, eqb}
@@ -17,17 +22,15 @@ use Rattle.base.specs.Span.{span}
 use Rattle.job.specs.Job.{Job}
 use Rattle.semantics.specs.Model.{Verdict, byteOf}
 
--- "words used 8 + 3A + 2T + Q"
-abbrev pub used : Job → ℕ
-used j = 8 + 3 * j .claims + 2 * j .workers + length (j .questions)
-
 -- "A header of eight words: words used; A; T; Q; offsets 8, 8 + 3A, 8 + 3A + 2T; claims opened so far."
-unfoldable pub header : Job → List ℕ
-header j =
-    used j ∷ j .claims ∷ j .workers ∷ length (j .questions) ∷ 8 ∷ (8 + 3 * j .claims) ∷ (8 + 3 * j .claims + 2 * j .workers) ∷ []
+abbrev pub openedWord : ℕ
+openedWord = 7
 
-abbrev pub opened : List ℕ → ℕ
-opened t = getD t 7 0
+abbrev pub fixedWords : ℕ
+fixedWords = openedWord
+
+abbrev pub claimsFrom : ℕ
+claimsFrom = 8
 
 -- "Per claim: mark, cursor, opening number."
 abbrev pub markWord : ℕ → ℕ
@@ -39,6 +42,46 @@ cursorWord c = 9 + 3 * c
 abbrev pub numberWord : ℕ → ℕ
 numberWord c = 10 + 3 * c
 
+abbrev pub workersFrom : ℕ → ℕ
+workersFrom a = markWord a
+
+-- "Per worker: awaited claim + 1 or 0; questions answered."
+abbrev pub awaitedAt : ℕ → ℕ → ℕ
+awaitedAt a w = workersFrom a + 2 * w
+
+abbrev pub answeredAt : ℕ → ℕ → ℕ
+answeredAt a w = awaitedAt a w + 1
+
+abbrev pub answersFrom : ℕ → ℕ → ℕ
+answersFrom a t = awaitedAt a t
+
+-- "Per question: 0 or its value 1 to 3."
+abbrev pub answerAt : ℕ → ℕ → ℕ → ℕ
+answerAt a t k = answersFrom a t + k
+
+abbrev pub Place : ℕ → Type 0
+Place i = i < 18446744073709551616
+
+abbrev pub awaitedWord : Job → ℕ → ℕ
+awaitedWord j w = awaitedAt (j .claims) w
+
+abbrev pub answeredWord : Job → ℕ → ℕ
+answeredWord j w = answeredAt (j .claims) w
+
+abbrev pub answerWord : Job → ℕ → ℕ
+answerWord j k = answerAt (j .claims) (j .workers) k
+
+-- "words used 8 + 3A + 2T + Q"
+abbrev pub used : Job → ℕ
+used j = answerWord j (length (j .questions))
+
+unfoldable pub header : Job → List ℕ
+header j =
+    used j ∷ j .claims ∷ j .workers ∷ length (j .questions) ∷ claimsFrom ∷ workersFrom (j .claims) ∷ answersFrom (j .claims) (j .workers) ∷ []
+
+abbrev pub opened : List ℕ → ℕ
+opened t = getD t openedWord 0
+
 abbrev pub mark : List ℕ → ℕ → ℕ
 mark t c = getD t (markWord c) 0
 
@@ -48,24 +91,31 @@ cursor t c = getD t (cursorWord c) 0
 abbrev pub number : List ℕ → ℕ → ℕ
 number t c = getD t (numberWord c) 0
 
--- "Per worker: awaited claim + 1 or 0; questions answered."
-abbrev pub awaitedWord : Job → ℕ → ℕ
-awaitedWord j w = 8 + 3 * j .claims + 2 * w
-
-abbrev pub answeredWord : Job → ℕ → ℕ
-answeredWord j w = 8 + 3 * j .claims + 2 * w + 1
-
 abbrev pub awaited : Job → List ℕ → ℕ → ℕ
 awaited j t w = getD t (awaitedWord j w) 0
 
 abbrev pub answered : Job → List ℕ → ℕ → ℕ
 answered j t w = getD t (answeredWord j w) 0
 
--- "Per question: 0 or its value 1 to 3."
-abbrev pub answerWord : Job → ℕ → ℕ
-answerWord j k = 8 + 3 * j .claims + 2 * j .workers + k
+abbrev pub answer : Job → List ℕ → ℕ → ℕ
+answer j t k = getD t (answerWord j k) 0
 
 -- "mark (0 fresh, w + 1 open and owned by worker w, 256 true, 257 false, 258 undefined)"
+abbrev pub valueBase : ℕ
+valueBase = 255
+
+abbrev pub mostValue : ℕ
+mostValue = 3
+
+abbrev pub trueMark : ℕ
+trueMark = 256
+
+abbrev pub falseMark : ℕ
+falseMark = 257
+
+abbrev pub undefinedMark : ℕ
+undefinedMark = 258
+
 abbrev pub fresh : List ℕ → ℕ → Bool
 fresh t c = eqb (mark t c) 0
 
@@ -73,13 +123,16 @@ abbrev pub owned : List ℕ → ℕ → ℕ → Bool
 owned t w c = eqb (mark t c) (w + 1)
 
 abbrev pub complete : List ℕ → ℕ → Bool
-complete t c = leb 256 (mark t c)
+complete t c = leb trueMark (mark t c)
 
 abbrev pub valueOf : ℕ → ℕ
-valueOf m = m - 255
+valueOf m = m - valueBase
+
+abbrev pub markOfValue : ℕ → ℕ
+markOfValue v = valueBase + v
 
 abbrev pub markOf : Verdict → ℕ
-markOf v = 255 + byteOf v
+markOf v = markOfValue (byteOf v)
 
 unfoldable pub values : Job → List ℕ → List ℕ
 values j t = span (λ c. valueOf (mark t c)) 0 (j .claims)

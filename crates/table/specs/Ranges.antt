@@ -18,7 +18,8 @@ use Rattle.job.specs.Rows.{_⨾_, row, scan}
 use Rattle.job.specs.declared.Check.{Check}
 use Rattle.job.specs.declared.Check.the-variants.{Accepted}
 use Rattle.table.specs.Questions.{askedBy}
-use Rattle.table.specs.Layout.{used, header, opened, markWord, cursorWord, numberWord, mark, cursor, number, awaitedWord, answeredWord, awaited, answered, answerWord, fresh}
+use Rattle.table.specs.Layout.{used, fixedWords, header, openedWord, opened, markWord, cursorWord, numberWord, mark, cursor, number, awaitedWord, answeredWord, answerWord}
+use Rattle.table.specs.Layout.{awaited, answered, answer, mostValue, trueMark, undefinedMark, fresh}
 
 unfoldable pub each : (ℕ → Check) → ℕ → Check
 each f zero = Accepted
@@ -37,7 +38,7 @@ marked j t = count (λ c. not (fresh t c)) (j .claims)
 
 -- "mark (0 fresh, w + 1 open and owned by worker w, 256 true, 257 false, 258 undefined)"
 abbrev pub badMark : Job → ℕ → Bool
-badMark j m = over m (j .workers) && (under m 256 || over m 258)
+badMark j m = over m (j .workers) && (under m trueMark || over m undefinedMark)
 
 -- "fresh claims have cursor 0; cursor at most the claim's literals"
 abbrev pub badCursor : Job → List ℕ → ℕ → Bool
@@ -60,12 +61,12 @@ checkWorker j t w =
 
 -- "Per question: 0 or its value 1 to 3."
 abbrev pub badAnswer : Job → List ℕ → ℕ → Bool
-badAnswer j t k = over (getD t (answerWord j k) 0) 3
+badAnswer j t k = over (answer j t k) mostValue
 
 unfoldable pub checkWords : Job → List ℕ → Check
 checkWords j t =
-    scan (badHeader j t) 7 10 (λ i. i)
-    ⨾ row (differs (opened t) (marked j t)) 10 7
+    scan (badHeader j t) fixedWords 10 (λ i. i)
+    ⨾ row (differs (opened t) (marked j t)) 10 openedWord
     ⨾ each (checkClaim j t) (j .claims)
     ⨾ each (checkWorker j t) (j .workers)
     ⨾ scan (badAnswer j t) (length (j .questions)) 10 (answerWord j)
@@ -74,7 +75,7 @@ unfoldable pub checkTable : Job → List ℕ → Check
 checkTable j t = checkRoom j t ⨾ checkWords j t
 
 pub record ClaimInRange (j : Job) (t : List ℕ) (c : ℕ) : Type 0 where
-  pub markIn : (mark t c ≤ j .workers) ⊎ ((256 ≤ mark t c) × (mark t c ≤ 258))
+  pub markIn : (mark t c ≤ j .workers) ⊎ ((trueMark ≤ mark t c) × (mark t c ≤ undefinedMark))
   pub unread : mark t c ≡ 0 → cursor t c ≡ 0
   pub read : cursor t c ≤ length (literalsOf c (j .rules))
   pub unnumbered : mark t c ≡ 0 → number t c ≡ 0
@@ -83,9 +84,9 @@ pub record ClaimInRange (j : Job) (t : List ℕ) (c : ℕ) : Type 0 where
 
 pub record InRange (j : Job) (t : List ℕ) : Type 0 where
   pub room : used j ≤ length t
-  pub headerIs : (i : ℕ) → i < 7 → getD t i 0 ≡ getD (header j) i 0
+  pub headerIs : (i : ℕ) → i < fixedWords → getD t i 0 ≡ getD (header j) i 0
   pub openedIs : opened t ≡ marked j t
   pub claim : (c : ℕ) → c < j .claims → ClaimInRange j t c
   pub awaits : (w : ℕ) → w < j .workers → awaited j t w ≤ j .claims
   pub answers : (w : ℕ) → w < j .workers → answered j t w ≤ length (askedBy j w)
-  pub values : (k : ℕ) → k < length (j .questions) → getD t (answerWord j k) 0 ≤ 3
+  pub values : (k : ℕ) → k < length (j .questions) → answer j t k ≤ mostValue

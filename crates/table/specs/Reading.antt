@@ -4,12 +4,13 @@
 use Prim.Native.Nat.{ℕ}
 use lib.Dec.{eqb}
 use Rattle.base.specs.Choose.{pick}
+use Rattle.table.specs.Layout.{trueMark, falseMark, undefinedMark}
 use Rattle.table.specs.declared.Reading.{Reading}
 use Rattle.table.specs.declared.Reading.the-variants.{Fresh, Open, True, False, Undefined}
 
 unfoldable pub readingOf : ℕ → Reading
 unfolding pick
-readingOf m = pick (eqb m 0) Fresh (pick (eqb m 256) True (pick (eqb m 257) False (pick (eqb m 258) Undefined Open)))
+readingOf m = pick (eqb m 0) Fresh (pick (eqb m trueMark) True (pick (eqb m falseMark) False (pick (eqb m undefinedMark) Undefined Open)))
 
 abbrev pub readingValue : Reading → ℕ
 readingValue Fresh = 0

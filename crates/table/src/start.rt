@@ -4,16 +4,16 @@ ghost use Prim.Native.Nat.{_≤_};
 ghost use lib.ListN.{length, getD};
 ghost use Rattle.job.specs.Accepted.{WellFormed};
 ghost use Rattle.job.specs.Format.{jobOf};
-ghost use Rattle.table.specs.Layout.{used as usedWords};
+ghost use Rattle.table.specs.Layout.{used as usedWords, fixedWords};
 ghost use Rattle.table.specs.Start.{startWords};
 use crate::words;
 
 // Word i of a started table: of the header, or 0.
-fn start_word(header: &[u32; 7], i: usize) -> u32
-    requires { ⌜ length (now header) ≡ 7 ⌝ }
+fn start_word(header: &[u32; words::FIXED_WORDS], i: usize) -> u32
+    requires { ⌜ length (now header) ≡ fixedWords ⌝ }
     ensures { λ r. ⌜ r ≡ getD (now (header .entry)) i 0 ⌝ }
 {
-    if i < 7 {
+    if i < words::FIXED_WORDS {
         return header[i];
     }
     0

@@ -1,5 +1,5 @@
 -- `table::checks::check_answers` meets its contract. The loop's invariant: k is at most the questions, and the word of no
--- question before k is past 3. The measure is what is left of the questions. Assumes nothing.
+-- question before k is past the last value. The measure is what is left of the questions. Assumes nothing.
 use Prim.Native.Nat.{ℕ, _-_, _≤_, _<_}
 use mathlib.Core.Bool.{false}
 use mathlib.Core.Path.{_≡_, refl, _∙_}
@@ -14,28 +14,16 @@ use Rattle.table.proofs.checks.check_answers.Statement.{statement}
 use Rattle.table.proofs.checks.check_answers.Tie as tie
 
 abbrev Inv-loop : tie.InvT-loop
-Inv-loop job table start questions k₀ k = (k ≤ questionsOf job) × ((i : ℕ) → i < k → badAnswer (jobOf job) table i ≡ false)
+Inv-loop job table claims workers questions k₀ k = (k ≤ questionsOf job) × ((i : ℕ) → i < k → badAnswer (jobOf job) table i ≡ false)
 
 abbrev μ-loop : tie.MeasureT-loop
-μ-loop job table start questions k₀ k = questionsOf job - k
+μ-loop job table claims workers questions k₀ k = questionsOf job - k
 
 claim-count-requires : tie.Need-claim-count-requires Inv-loop μ-loop
 claim-count-requires c κs = omega arith
 
-mul-start : tie.Need-mul-start Inv-loop μ-loop
-mul-start c = omega arith
-
-add-start : tie.Need-add-start Inv-loop μ-loop
-add-start c = omega arith
-
 worker-count-requires : tie.Need-worker-count-requires Inv-loop μ-loop
 worker-count-requires c κs = omega arith
-
-mul-start-2 : tie.Need-mul-start-2 Inv-loop μ-loop
-mul-start-2 c = omega arith
-
-add-start-2 : tie.Need-add-start-2 Inv-loop μ-loop
-add-start-2 c = omega arith
 
 question-count-requires : tie.Need-question-count-requires Inv-loop μ-loop
 question-count-requires c κs = omega arith
@@ -43,26 +31,24 @@ question-count-requires c κs = omega arith
 loop-holds : tie.Need-loop-holds Inv-loop μ-loop
 loop-holds c = (omega arith, below-none _)
 
-add-word-at : tie.Need-add-word-at Inv-loop μ-loop
-add-word-at c = omega arith
+answer-at-requires : tie.Need-answer-at-requires Inv-loop μ-loop
+answer-at-requires c κs = let z = sizes (c .before .before .before .before .before .before .before .args .job .now) in omega arith
 
-word-at-requires : tie.Need-word-at-requires Inv-loop μ-loop
-word-at-requires c κs = let z = sizes (c .before .before .before .before .before .before .before .args .job .now) in omega arith
-
-add-bad-word : tie.Need-add-bad-word Inv-loop μ-loop
-add-bad-word c = omega arith
+answer-word-requires : tie.Need-answer-word-requires Inv-loop μ-loop
+answer-word-requires c κs = omega arith
 
 bad-word-requires : tie.Need-bad-word-requires Inv-loop μ-loop
 bad-word-requires c κs = tt
 
 returns : tie.Need-returns Inv-loop μ-loop
 returns c =
-    let a = c .before .before .before .before .before .before .before .before .before .before .args in
+    let b = c .before in
+    let a = b .before .before .before .before .before .before .before .before .before .before .args in
     let z = sizes (a .job .now) in
-    let l = c .before .before .before .before .loop in
+    let l = b .before .before .before .before .loop in
     placed (c .bad-word .ensures) (omega arith)
     ∙ scan-at _ _ (l .k) _ (answerWord (jobOf (a .job .now))) (omega arith) (l .inv .1)
-    (word-bad (a .table .now) (omega arith) (c .before .before .word-at .ensures .value) refl (c .before .if1 .taken))
+    (word-bad (a .table .now) (omega arith) (b .before .before .answer-at .ensures .value) refl (b .before .if1 .taken))
 
 add-k : tie.Need-add-k Inv-loop μ-loop
 add-k c = omega arith
@@ -75,7 +61,7 @@ loop-again c =
     let a = c .before .before .before .before .before .before .before .before .before .args in
     let z = sizes (a .job .now) in
     let l = c .before .before .before .loop in
-    (omega arith, below-more _ _ (l .inv .1) (word-good (a .table .now) (omega arith) (c .before .word-at .ensures .value) refl (c .if1 .left)))
+    (omega arith, below-more _ _ (l .inv .1) (word-good (a .table .now) (omega arith) (c .before .answer-at .ensures .value) refl (c .if1 .left)))
 
 returns-2 : tie.Need-returns-2 Inv-loop μ-loop
 returns-2 c =
@@ -89,16 +75,11 @@ check-answers-spec =
     Inv-loop
     μ-loop
     claim-count-requires
-    mul-start
-    add-start
     worker-count-requires
-    mul-start-2
-    add-start-2
     question-count-requires
     loop-holds
-    add-word-at
-    word-at-requires
-    add-bad-word
+    answer-at-requires
+    answer-word-requires
     bad-word-requires
     returns
     add-k

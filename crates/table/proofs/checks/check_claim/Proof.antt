@@ -2,7 +2,7 @@
 use mathlib.Core.Path.{refl, _∙_}
 use native.Mathlib.Omega.{arith}
 use borrow.Author.Needs.{needs}
-use Rattle.job.proofs.Rows.{pass, stop}
+use Rattle.job.proofs.Rows.{pass, stop, placed}
 use Rattle.job.specs.Format.{jobOf}
 use Rattle.table.proofs.Marks.{mark-test, cursor-bad, cursor-good, number-test}
 use Rattle.table.specs.Ranges.{checkClaim}
@@ -16,11 +16,8 @@ mark-at-requires c κs = omega arith
 is-bad-mark-requires : tie.Need-is-bad-mark-requires
 is-bad-mark-requires c κs = search needs
 
-mul-bad-word : tie.Need-mul-bad-word
-mul-bad-word c = search needs
-
-add-bad-word : tie.Need-add-bad-word
-add-bad-word c = search needs
+mark-word-requires : tie.Need-mark-word-requires
+mark-word-requires c κs = search needs
 
 bad-word-requires : tie.Need-bad-word-requires
 bad-word-requires c κs = search needs
@@ -28,10 +25,12 @@ bad-word-requires c κs = search needs
 returns : tie.Need-returns
 unfolding checkClaim
 returns c =
-    let a = c .before .before .before .before .before .before .args in
+    let b = c .before in
+    let a = b .before .before .before .before .before .before .args in
     let j = jobOf (a .job .now) in
     let t = a .table .now in
-    c .bad-word .ensures ∙ stop _ _ _ _ (mark-test j t (a .c) (c .before .before .before .mark-at .ensures .value) (c .before .before .is-bad-mark .ensures) (c .before .if1 .taken))
+    placed (c .bad-word .ensures) (b .mark-word .ensures)
+    ∙ stop _ _ _ _ (mark-test j t (a .c) (b .before .before .before .mark-at .ensures .value) (b .before .before .is-bad-mark .ensures) (b .before .if1 .taken))
 
 most-passed-requires : tie.Need-most-passed-requires
 most-passed-requires c κs = search needs
@@ -40,11 +39,8 @@ cursor-at-requires : tie.Need-cursor-at-requires
 unfolding jobOf
 cursor-at-requires c κs = omega arith
 
-mul-bad-word-2 : tie.Need-mul-bad-word-2
-mul-bad-word-2 c = search needs
-
-add-bad-word-2 : tie.Need-add-bad-word-2
-add-bad-word-2 c = search needs
+cursor-word-requires : tie.Need-cursor-word-requires
+cursor-word-requires c κs = search needs
 
 bad-word-requires-2 : tie.Need-bad-word-requires-2
 bad-word-requires-2 c κs = search needs
@@ -52,7 +48,8 @@ bad-word-requires-2 c κs = search needs
 returns-2 : tie.Need-returns-2
 unfolding checkClaim
 returns-2 c =
-    let c₁ = c .before .before .before .before in
+    let b = c .before in
+    let c₁ = b .before .before .before .before in
     let c₂ = c₁ .before in
     let c₃ = c₂ .before in
     let c₄ = c₃ .before .before .before in
@@ -60,9 +57,9 @@ returns-2 c =
     let j = jobOf (a .job .now) in
     let t = a .table .now in
     let m = c₃ .mark-at .ensures .value in
-    c .bad-word2 .ensures
+    placed (c .bad-word2 .ensures) (b .cursor-word .ensures)
     ∙ pass _ _ _ _ (mark-test j t (a .c) m (c₂ .is-bad-mark .ensures) (c₁ .if1 .left))
-    (stop _ _ _ _ (cursor-bad j t (a .c) m (c .before .before .before .most-passed .ensures) (c .before .before .cursor-at .ensures .value) (c .before .if2 .taken)))
+    (stop _ _ _ _ (cursor-bad j t (a .c) m (b .before .before .before .most-passed .ensures) (b .before .before .cursor-at .ensures .value) (b .before .if2 .taken)))
 
 number-at-requires : tie.Need-number-at-requires
 unfolding jobOf
@@ -71,11 +68,8 @@ number-at-requires c κs = omega arith
 is-bad-number-requires : tie.Need-is-bad-number-requires
 is-bad-number-requires c κs = search needs
 
-mul-bad-word-3 : tie.Need-mul-bad-word-3
-mul-bad-word-3 c = search needs
-
-add-bad-word-3 : tie.Need-add-bad-word-3
-add-bad-word-3 c = search needs
+number-word-requires : tie.Need-number-word-requires
+number-word-requires c κs = search needs
 
 bad-word-requires-3 : tie.Need-bad-word-requires-3
 bad-word-requires-3 c κs = search needs
@@ -83,7 +77,8 @@ bad-word-requires-3 c κs = search needs
 returns-3 : tie.Need-returns-3
 unfolding checkClaim
 returns-3 c =
-    let c₁ = c .before .before .before .before in
+    let b = c .before in
+    let c₁ = b .before .before .before .before in
     let c₂ = c₁ .before in
     let c₃ = c₂ .before in
     let c₄ = c₃ .before in
@@ -94,10 +89,10 @@ returns-3 c =
     let j = jobOf (a .job .now) in
     let t = a .table .now in
     let m = c₆ .mark-at .ensures .value in
-    c .bad-word3 .ensures
+    placed (c .bad-word3 .ensures) (b .number-word .ensures)
     ∙ pass _ _ _ _ (mark-test j t (a .c) m (c₅ .is-bad-mark .ensures) (c₄ .if1 .left))
     (pass _ _ _ _ (cursor-good j t (a .c) m (c₃ .most-passed .ensures) (c₂ .cursor-at .ensures .value) (c₁ .if2 .left))
-    (stop _ _ _ _ (number-test j t (a .c) m (c .before .before .before .number-at .ensures .value) (c .before .before .is-bad-number .ensures) (c .before .if3 .taken))))
+    (stop _ _ _ _ (number-test j t (a .c) m (b .before .before .before .number-at .ensures .value) (b .before .before .is-bad-number .ensures) (b .before .if3 .taken))))
 
 returns-4 : tie.Need-returns-4
 unfolding checkClaim
@@ -122,20 +117,17 @@ check-claim-spec =
     (tie.spec
     mark-at-requires
     is-bad-mark-requires
-    mul-bad-word
-    add-bad-word
+    mark-word-requires
     bad-word-requires
     returns
     most-passed-requires
     cursor-at-requires
-    mul-bad-word-2
-    add-bad-word-2
+    cursor-word-requires
     bad-word-requires-2
     returns-2
     number-at-requires
     is-bad-number-requires
-    mul-bad-word-3
-    add-bad-word-3
+    number-word-requires
     bad-word-requires-3
     returns-3
     returns-4)

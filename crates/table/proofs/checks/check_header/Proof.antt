@@ -1,5 +1,5 @@
--- `table::checks::check_header` meets its contract. The loop's invariant: i is at most 7, and each word before i is the header's.
--- The measure is what is left of the seven. Assumes nothing.
+-- `table::checks::check_header` meets its contract. The loop's invariant: i is at most the words of the header that never change, and each word before i is the header's.
+-- The measure is what is left of these. Assumes nothing.
 use Prim.Native.Nat.{ℕ, _-_, _≤_, _<_}
 use mathlib.Core.Bool.{false}
 use mathlib.Core.Path.{_≡_, _∙_}
@@ -9,15 +9,16 @@ use borrow.Author.Count.{below-none, below-more}
 use Rattle.job.proofs.Rows.{scan-none, scan-at}
 use Rattle.job.specs.Format.{jobOf}
 use Rattle.table.proofs.Sizes.{header-bad, header-good}
+use Rattle.table.specs.Layout.{fixedWords}
 use Rattle.table.specs.Ranges.{badHeader}
 use Rattle.table.proofs.checks.check_header.Statement.{statement}
 use Rattle.table.proofs.checks.check_header.Tie as tie
 
 abbrev Inv-loop : tie.InvT-loop
-Inv-loop job table header i₀ i = (i ≤ 7) × ((k : ℕ) → k < i → badHeader (jobOf job) table k ≡ false)
+Inv-loop job table header i₀ i = (i ≤ fixedWords) × ((k : ℕ) → k < i → badHeader (jobOf job) table k ≡ false)
 
 abbrev μ-loop : tie.MeasureT-loop
-μ-loop job table header i₀ i = 7 - i
+μ-loop job table header i₀ i = fixedWords - i
 
 header-words-requires : tie.Need-header-words-requires Inv-loop μ-loop
 header-words-requires c κs = search needs

@@ -16,17 +16,8 @@ awaited-at-requires : tie.Need-awaited-at-requires
 unfolding jobOf
 awaited-at-requires c κs = omega arith
 
-mul-bad-word : tie.Need-mul-bad-word
-mul-bad-word c = search needs
-
-add-bad-word : tie.Need-add-bad-word
-add-bad-word c = search needs
-
-mul-bad-word-2 : tie.Need-mul-bad-word-2
-mul-bad-word-2 c = search needs
-
-add-bad-word-2 : tie.Need-add-bad-word-2
-add-bad-word-2 c = search needs
+awaited-word-requires : tie.Need-awaited-word-requires
+awaited-word-requires c κs = search needs
 
 bad-word-requires : tie.Need-bad-word-requires
 bad-word-requires c κs = search needs
@@ -34,9 +25,10 @@ bad-word-requires c κs = search needs
 returns : tie.Need-returns
 unfolding checkWorker jobOf
 returns c =
-    let t = c .before .before .before .before .before .before .args .table .now in
+    let b = c .before in
+    let t = b .before .before .before .before .before .before .args .table .now in
     placed (c .bad-word .ensures) (omega arith)
-    ∙ stop _ _ _ _ (word-bad t (omega arith) (c .before .before .awaited-at .ensures .value) (c .before .before .before .claim-count .ensures .value) (c .before .if1 .taken))
+    ∙ stop _ _ _ _ (word-bad t (omega arith) (b .before .before .awaited-at .ensures .value) (b .before .before .before .claim-count .ensures .value) (b .before .if1 .taken))
 
 mul-word : tie.Need-mul-word
 mul-word c = search needs
@@ -51,20 +43,8 @@ answered-at-requires : tie.Need-answered-at-requires
 unfolding jobOf
 answered-at-requires c κs = omega arith
 
-mul-bad-word-3 : tie.Need-mul-bad-word-3
-mul-bad-word-3 c = search needs
-
-add-bad-word-3 : tie.Need-add-bad-word-3
-add-bad-word-3 c = search needs
-
-mul-bad-word-4 : tie.Need-mul-bad-word-4
-mul-bad-word-4 c = search needs
-
-add-bad-word-4 : tie.Need-add-bad-word-4
-add-bad-word-4 c = search needs
-
-add-bad-word-5 : tie.Need-add-bad-word-5
-add-bad-word-5 c = search needs
+answered-word-requires : tie.Need-answered-word-requires
+answered-word-requires c κs = search needs
 
 bad-word-requires-2 : tie.Need-bad-word-requires-2
 bad-word-requires-2 c κs = search needs
@@ -72,15 +52,16 @@ bad-word-requires-2 c κs = search needs
 returns-2 : tie.Need-returns-2
 unfolding checkWorker jobOf
 returns-2 c =
-    let c₁ = c .before .before .before .before .before in
+    let b = c .before in
+    let c₁ = b .before .before .before .before .before in
     let c₂ = c₁ .before in
     let c₃ = c₂ .before in
     let c₄ = c₃ .before .before .before in
     let t = c₄ .args .table .now in
-    let n = c .before .before .before .word .ensures .value ∙ c₄ .pre .1 .0 .counts (c₄ .args .w) (omega arith) in
+    let n = b .before .before .before .word .ensures .value ∙ c₄ .pre .1 .0 .counts (c₄ .args .w) (omega arith) in
     placed (c .bad-word2 .ensures) (omega arith)
     ∙ pass _ _ _ _ (word-good t (omega arith) (c₂ .awaited-at .ensures .value) (c₃ .claim-count .ensures .value) (c₁ .if1 .left))
-    (stop _ _ _ _ (word-bad t (omega arith) (c .before .before .answered-at .ensures .value) n (c .before .if2 .taken)))
+    (stop _ _ _ _ (word-bad t (omega arith) (b .before .before .answered-at .ensures .value) n (b .before .if2 .taken)))
 
 returns-3 : tie.Need-returns-3
 unfolding checkWorker jobOf
@@ -100,21 +81,14 @@ check-worker-spec =
     (tie.spec
     claim-count-requires
     awaited-at-requires
-    mul-bad-word
-    add-bad-word
-    mul-bad-word-2
-    add-bad-word-2
+    awaited-word-requires
     bad-word-requires
     returns
     mul-word
     element-copy-out-word
     word-requires
     answered-at-requires
-    mul-bad-word-3
-    add-bad-word-3
-    mul-bad-word-4
-    add-bad-word-4
-    add-bad-word-5
+    answered-word-requires
     bad-word-requires-2
     returns-2
     returns-3)

@@ -13,20 +13,17 @@ worker-count-requires c κs = search needs
 question-count-requires : tie.Need-question-count-requires
 question-count-requires c κs = search needs
 
-mul-workers-at : tie.Need-mul-workers-at
-mul-workers-at c = search needs
+workers-from-requires : tie.Need-workers-from-requires
+workers-from-requires c κs = search needs
 
-add-workers-at : tie.Need-add-workers-at
-add-workers-at c = search needs
+answers-from-requires : tie.Need-answers-from-requires
+answers-from-requires c κs = search needs
 
-mul-answers-at : tie.Need-mul-answers-at
-mul-answers-at c = search needs
+answer-word-requires : tie.Need-answer-word-requires
+answer-word-requires c κs = search needs
 
-add-answers-at : tie.Need-add-answers-at
-add-answers-at c = search needs
-
-add-used : tie.Need-add-used
-add-used c = search needs
+cast-t8 : tie.Need-cast-t8
+cast-t8 c = search needs
 
 cast-t9 : tie.Need-cast-t9
 cast-t9 c = search needs
@@ -46,11 +43,10 @@ cast-t13 c = search needs
 cast-t14 : tie.Need-cast-t14
 cast-t14 c = search needs
 
-cast-t15 : tie.Need-cast-t15
-cast-t15 c = search needs
-
 returns : tie.Need-returns
-returns c = header-is _ _ _ _ (c .before .before .claim-count .ensures .value) (c .before .worker-count .ensures .value) (c .question-count .ensures .value)
+returns c =
+    let c₁ = c .before .before .before in
+    header-is _ (c₁ .before .before .claim-count .ensures .value) (c₁ .before .worker-count .ensures .value) (c₁ .question-count .ensures .value) (c .before .before .workers-from .ensures) (c .before .answers-from .ensures) (c .answer-word .ensures)
 
 pub header-words-spec : {M : Type 1} → statement M
 header-words-spec =
@@ -59,16 +55,14 @@ header-words-spec =
     claim-count-requires
     worker-count-requires
     question-count-requires
-    mul-workers-at
-    add-workers-at
-    mul-answers-at
-    add-answers-at
-    add-used
+    workers-from-requires
+    answers-from-requires
+    answer-word-requires
+    cast-t8
     cast-t9
     cast-t10
     cast-t11
     cast-t12
     cast-t13
     cast-t14
-    cast-t15
     returns)
