@@ -7,16 +7,21 @@ ghost use lib.Dec.{leb};
 ghost use lib.ListN.{length, getD, replicate};
 ghost use Rattle.base.specs.Compare.{under};
 ghost use Rattle.job.specs.Accepted.{WellFormed};
+ghost use Rattle.job.specs.Job.{mostClaims, mostLiterals};
 ghost use Rattle.job.specs.Format.{ruleByte, headAt, literalByte, literalAt};
-ghost use Rattle.job.specs.Claims.{Index, boundAt, endIn, moved, pastRule};
+ghost use Rattle.job.specs.Claims.{indexEntries, Index, boundAt, endIn, moved, pastRule};
 use crate::ClaimIndex;
 use crate::Cursor;
 use crate::Literal;
+use crate::checks::MOST_CLAIMS;
+use crate::checks::MOST_LITERALS;
 use crate::format;
 use base::wide;
 
-// The index has a field a claim first, and then a bit a literal, 16 to a field.
-const BOUNDS_AT: usize = 4097;
+// The index has a field for each claim and one more, and then a bit for each literal and one more, 16 to a field.
+const BOUNDS_AT: usize = MOST_CLAIMS + 1;
+
+pub const INDEX_ENTRIES: usize = BOUNDS_AT + (MOST_LITERALS / 16 + 1);
 
 // Whether there is a rule i and its head is below the claim.
 fn head_below(job: &[u8], rules: usize, i: usize, claim: usize) -> bool
@@ -31,9 +36,9 @@ fn head_below(job: &[u8], rules: usize, i: usize, claim: usize) -> bool
 
 // An index to be filled.
 fn no_index() -> ClaimIndex
-    ensures { λ r. ⌜ r ≡ replicate 5122 0 ⌝ }
+    ensures { λ r. ⌜ r ≡ replicate indexEntries 0 ⌝ }
 {
-    [0u16; 5122]
+    [0u16; INDEX_ENTRIES]
 }
 
 // A field with one more bit set.
@@ -72,7 +77,7 @@ pub fn index_claims(job: &[u8]) -> ClaimIndex
 
 // Whether a rule ends before this literal.
 pub fn bounded(index: &ClaimIndex, at: usize) -> bool
-    requires { ⌜ at ≤ 16384 ⌝ }
+    requires { ⌜ at ≤ mostLiterals ⌝ }
     ensures { λ r. ⌜ r ≡ boundAt (now (index .entry)) at ⌝ }
 {
     (index[BOUNDS_AT + at / 16] >> (at % 16)) % 2 != 0
@@ -80,11 +85,11 @@ pub fn bounded(index: &ClaimIndex, at: usize) -> bool
 
 // Where the rule of a literal ends.
 pub fn rule_end(index: &ClaimIndex, at: usize) -> usize
-    requires { ⌜ at < 16384 ⌝ }
-    ensures { λ r. ⌜ (r ≡ endIn (now (index .entry)) at) × (r ≤ 16385) ⌝ }
+    requires { ⌜ at < mostLiterals ⌝ }
+    ensures { λ r. ⌜ (r ≡ endIn (now (index .entry)) at) × (r ≤ mostLiterals + 1) ⌝ }
 {
     let mut end = at + 1;
-    while end <= 16384 {
+    while end <= MOST_LITERALS {
         if bounded(index, end) {
             return end;
         }
@@ -96,7 +101,7 @@ pub fn rule_end(index: &ClaimIndex, at: usize) -> usize
 impl Cursor {
     // The cursor over a claim's literals that has passed some of them.
     pub fn over(index: &ClaimIndex, claim: usize, passed: usize) -> Cursor
-        requires { ⌜ (claim < 4096) × (passed ≤ 16384) ⌝ }
+        requires { ⌜ (claim < mostClaims) × (passed ≤ mostLiterals) ⌝ }
         ensures { λ r. ⌜ r ≡ record { at = getD (now (index .entry)) claim 0 + passed; end = getD (now (index .entry)) (claim + 1) 0 } ⌝ }
     {
         Cursor {
@@ -123,7 +128,7 @@ impl Cursor {
 
     // The cursor past the current literal's rule.
     pub fn past_rule(self, index: &ClaimIndex) -> Cursor
-        requires { ⌜ self .at < 16384 ⌝ }
+        requires { ⌜ self .at < mostLiterals ⌝ }
         ensures { λ r. ⌜ r ≡ pastRule (now (index .entry)) self ⌝ }
     {
         let at = self.at;

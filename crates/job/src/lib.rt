@@ -30,4 +30,4 @@ pub struct Cursor {
 }
 
 // The index of a job's claims and rules (claims.rt): a field for each claim and one more, then a bit for each literal and one more.
-pub type ClaimIndex = [u16; 5122];
+pub type ClaimIndex = [u16; claims::INDEX_ENTRIES];
