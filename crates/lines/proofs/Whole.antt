@@ -24,7 +24,7 @@ use Rattle.job.proofs.Fields.{encode-length}
 use Rattle.lines.specs.Lines.{RuleLine, Lines, asRule, typed, textOf, jobFrom, jobSize, sorted}
 use Rattle.lines.specs.Checks.{someNotBelow, checkNumbers, checkRoom, checkLines}
 use Rattle.lines.specs.Numbering.{countedAll}
-use Rattle.lines.specs.Noting.{ruleNotes, askNotes, notesOf, headMark}
+use Rattle.lines.specs.Noting.{mostNotes, ruleNotes, askNotes, notesOf, headMark}
 use Rattle.lines.specs.Placing.{placed, recordAt, bodyAt, jobBytes, Placeable, Parted, partedBytes}
 use Rattle.lines.specs.Room.{Readable}
 use Rattle.lines.specs.declared.Tally.{Tally}
@@ -143,7 +143,7 @@ module _ (l : Lines) (room : ℕ) (a : Accepted ≡ checkLines l room) where
   lines-bytes : partedBytes (sizes l) (notesOf (textOf l)) ≡ encode (jobFrom l)
   lines-bytes = rw (front-said, back-said) (whole-bytes l fit)
 
-  notes-few : length (notesOf (textOf l)) ≤ 24576
+  notes-few : length (notesOf (textOf l)) ≤ mostNotes
   notes-few = let p = placeable l fit room room-pass .small in omega (arith, all-noted, p .rulesMost, p .literalsMost, p .questionsMost)
 
   pub sized : length (encode (jobFrom l)) ≤ room
@@ -153,7 +153,7 @@ module _ (s : List ℕ) (t : Tally) (room : ℕ) (r : Readable s t room) where
   counts-are : t ≡ sizes (r .lines)
   counts-are = r .counts ∙ ap (λ (x : List ℕ). countedAll x .tally) (r .says) ∙ text-tally (r .lines) room (r .accepted)
 
-  pub readable-few : length (notesOf s) ≤ 24576
+  pub readable-few : length (notesOf s) ≤ mostNotes
   readable-few = rw (r .says) (notes-few (r .lines) room (r .accepted))
 
   pub readable-parted : Parted t (notesOf s) room

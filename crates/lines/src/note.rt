@@ -8,6 +8,12 @@ use crate::Event;
 use crate::Slot;
 use crate::State;
 use crate::grammar;
+use job::checks;
+
+// The most notes of rules: one for each head and each literal; and the most notes of a job: two for each question besides.
+pub const MOST_RULE_NOTES: usize = checks::MOST_RULES + checks::MOST_LITERALS;
+
+pub const MOST_NOTES: usize = MOST_RULE_NOTES + 2 * checks::MOST_QUESTIONS;
 
 fn put_note(notes: &mut [u32], at: usize, note: u32) -> usize
     requires { ⌜ at + 1 ≤ length (now notes) ⌝ }

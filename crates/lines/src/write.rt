@@ -7,12 +7,15 @@ ghost use Rattle.writing.specs.Written.{Put};
 ghost use Rattle.job.specs.Encoding.{encode};
 ghost use Rattle.lines.specs.Lines.{Lines, textOf, jobFrom};
 ghost use Rattle.lines.specs.Room.{Readable};
+ghost use Rattle.job.specs.Job.{mostRules};
+ghost use Rattle.lines.specs.Noting.{mostNotes};
 ghost use Rattle.lines.specs.Placing.{BodyLength, Within, Placeable, placed, recordAt, bodyAt, jobBytes, Parted, partedBytes};
 use crate::Tally;
 use crate::note;
 use crate::place;
 use crate::put;
 use base::wide;
+use job::checks;
 
 // How many literals the rule at place p has: notes up to the next head.
 fn body_length(notes: &[u32], p: usize) -> usize
@@ -71,10 +74,10 @@ fn put_bodies(out: &mut [u8], at: usize, notes: &[u32], order: &[u16]) -> usize
 }
 
 // A place for each rule.
-fn no_order() -> [u16; 6144]
-    ensures { λ r. ⌜ r ≡ replicate 6144 0 ⌝ }
+fn no_order() -> [u16; checks::MOST_RULES]
+    ensures { λ r. ⌜ r ≡ replicate mostRules 0 ⌝ }
 {
-    [0u16; 6144]
+    [0u16; checks::MOST_RULES]
 }
 
 // The job with these counts: header, the rules in their order, the questions.
@@ -108,11 +111,11 @@ fn put_parts(out: &mut [u8], t: Tally, notes: &[u32]) -> usize
     put_noted(out, t, &notes[..from], &notes[from..])
 }
 
-// Room for the notes of every job: 6,144 heads, 16,384 literals, 1,024 questions of two each.
-fn no_notes() -> [u32; 24576]
-    ensures { λ r. ⌜ r ≡ replicate 24576 0 ⌝ }
+// Room for the notes of every job.
+fn no_notes() -> [u32; note::MOST_NOTES]
+    ensures { λ r. ⌜ r ≡ replicate mostNotes 0 ⌝ }
 {
-    [0u32; 24576]
+    [0u32; note::MOST_NOTES]
 }
 
 // The job of a text that every row accepts, from the numbers of its lines.

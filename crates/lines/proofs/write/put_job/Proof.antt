@@ -7,6 +7,7 @@ use Rattle.writing.proofs.Wrote.{put-as}
 use Rattle.lines.proofs.Joined.{order-taken, order-counted, put-within}
 use Rattle.lines.proofs.Whole.{readable-few, readable-parted, readable-bytes}
 use borrow.Author.Needs.{needs}
+use Rattle.lines.specs.Noting.{mostNotes}
 use Rattle.lines.proofs.write.put_job.Statement.{statement}
 use Rattle.lines.proofs.write.put_job.Tie as tie
 
@@ -17,12 +18,12 @@ slice-aggregate-note-numbers : tie.Need-slice-aggregate-note-numbers
 slice-aggregate-note-numbers c = search needs
 
 note-numbers-requires : tie.Need-note-numbers-requires
-note-numbers-requires c κs = let n = ap length (c .before .no-notes .ensures) ∙ length-replicate {A = ℕ} 24576 0 in omega (arith, readable-few _ _ _ (c .before .before .before .before .pre))
+note-numbers-requires c κs = let n = ap length (c .before .no-notes .ensures) ∙ length-replicate {A = ℕ} mostNotes 0 in omega (arith, readable-few _ _ _ (c .before .before .before .before .pre))
 
 array-share-prefix-notes : tie.Need-array-share-prefix-notes
 array-share-prefix-notes c =
     let s = c .before .before .before .before .before .before .before in
-    let n = ap length (c .before .before .before .before .no-notes .ensures) ∙ length-replicate {A = ℕ} 24576 0 in
+    let n = ap length (c .before .before .before .before .no-notes .ensures) ∙ length-replicate {A = ℕ} mostNotes 0 in
     put-within _ _ _ _ (omega (arith, readable-few _ _ _ (s .pre))) (c .before .before .note-numbers .ensures)
 
 slice-aggregate-put-parts : tie.Need-slice-aggregate-put-parts
