@@ -6,6 +6,7 @@ pub mod Written
 pub mod Members
 pub mod Lists
 pub mod Sets
+pub mod ByteSets
 pub mod Search
 pub mod Sum
 pub mod Paths

@@ -3,9 +3,12 @@
 --   nothing       the empty set
 --   count W n     how many numbers below n are in W
 --   iterate f n   f applied n times, from the empty set on
+--   setOf w       the numbers whose byte in w is not 0
 use Prim.Native.Nat.{ℕ, zero, suc, _+_}
-use mathlib.Core.Bool.{Bool, true, false}
-use lib.Dec.{T}
+use mathlib.Core.Bool.{Bool, true, false, not}
+use mathlib.Core.List.{List}
+use lib.Dec.{T, eqb}
+use lib.ListN.{getD}
 
 abbrev pub Claims : Type 0
 Claims = ℕ → Bool
@@ -28,3 +31,6 @@ count W (suc n) = count W n + one (W n)
 unfoldable pub iterate : (Claims → Claims) → ℕ → Claims
 iterate f zero = nothing
 iterate f (suc n) = f (iterate f n)
+
+unfoldable pub setOf : List ℕ → Claims
+setOf w c = not (eqb (getD w c 0) 0)

@@ -1,2 +1,3 @@
-// What several crates share, each once: numbers made wider (wide), and definitions and laws (specs/ and proofs/).
+// What several crates share: bytes as sets of claims, and numbers made wider; definitions and laws, each once (specs/ and proofs/).
+pub mod sets;
 pub mod wide;

@@ -108,3 +108,7 @@ accepted s w =
 
 pub accepted-exactly : (s : List ℕ) → (Accepted ≡ checkJob s) ↔ WellFormed s
 accepted-exactly s = (well-formed s, accepted s)
+
+-- the bytes of its header are there
+pub header-room : (s : List ℕ) → WellFormed s → 36 ≤ length s
+header-room s good = omega (arith, good .sized .size)

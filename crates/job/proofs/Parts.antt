@@ -1,6 +1,6 @@
 -- Heads and bodies, one rule after the other. Assumes nothing.
 use Prim.Native.Nat.{ℕ, zero, suc, _+_, _<_, _≤_}
-use mathlib.Core.Path.{_≡_, _∙_, ap, ap₂}
+use mathlib.Core.Path.{_≡_, refl, _∙_, ap, ap₂}
 use mathlib.Core.List.{List}
 use mathlib.Core.Logic.{⊎-elim}
 use native.Mathlib.Omega.{arith}
@@ -10,6 +10,10 @@ use Rattle.job.specs.Format.{rules, literals, headAt, headBefore, bodySt
 use Rattle.job.specs.Job.{claimOf}
 use Rattle.job.specs.declared.Literal.{Literal}
 use Rattle.job.specs.declared.Question.{Question}
+
+pub body-first : (s : List ℕ) → bodyStart s 0 ≡ 0
+unfolding bodyStart
+body-first s = refl
 
 -- one rule more, at the code's i + 1
 pub headBefore-next : (s : List ℕ) (i : ℕ) → headBefore s (i + 1) ≡ headAt s i

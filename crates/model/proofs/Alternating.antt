@@ -13,14 +13,14 @@ use native.Mathlib.Omega.{arith}
 use native.Mathlib.Decide.{ℕ-discrete}
 use lib.Dec.{T, T-not}
 use lib.ListN.{length, getD}
-use Rattle.base.specs.Sets.{Claims, _⊆_, count}
+use Rattle.base.specs.Sets.{Claims, _⊆_, count, setOf}
 use Rattle.base.proofs.Bools.{is, is-not, same, and-left, and-right}
 use Rattle.base.proofs.Sets.{count-less}
 use Rattle.job.specs.Accepted.{WellFormed}
 use Rattle.job.specs.Format.{claims, literals}
 use Rattle.semantics.specs.Model.{D, K, U}
 use Rattle.semantics.proofs.LeastSet.{D-antitone}
-use Rattle.model.specs.Passes.{setOf, givenProgram}
+use Rattle.model.specs.Exchanged.{givenProgram}
 use Rattle.model.specs.Positions.{keys, owners}
 use Rattle.model.specs.Queues.{seen, Queue}
 use Rattle.model.specs.Counters.{Raised}

@@ -13,10 +13,10 @@ use native.Mathlib.Decide.{ℕ-discrete, decLt}
 use borrow.Author.Tests.{eq-eqb, ne-eqb, eqb-true, lt-ltb, ltb-true}
 use lib.Dec.{T, ltb, eqb}
 use lib.ListN.{length, getD, List·getD-eq-default}
+use Rattle.base.specs.Sets.{setOf}
 use Rattle.base.proofs.Bools.{is-not, is-true}
 use Rattle.job.specs.Accepted.{WellFormed}
 use Rattle.job.specs.Format.{claims, rules, headAt}
-use Rattle.model.specs.Passes.{setOf}
 use Rattle.model.specs.Queues.{seen, Joined, JoinedIf, Joins, none, more, Fits}
 use Rattle.model.specs.Counters.{Ready, Idle, givenTo, Given, Begun}
 use Rattle.model.proofs.Queues.{seen-none}

@@ -13,16 +13,15 @@ use native.Mathlib.Omega.{arith}
 use native.Mathlib.Decide.{ℕ-discrete}
 use lib.Dec.{T}
 use lib.ListN.{length, getD, set, length-set}
-use Rattle.base.specs.Sets.{Claims}
+use Rattle.base.specs.Sets.{Claims, setOf}
 use Rattle.base.proofs.Bools.{is, is-false}
+use Rattle.base.proofs.ByteSets.{set-gone, set-same}
 use Rattle.job.specs.Accepted.{WellFormed}
 use Rattle.job.specs.Format.{claims, rules, literals, headAt}
-use Rattle.model.specs.Passes.{setOf}
 use Rattle.model.specs.Positions.{keyAt, Owned}
 use Rattle.model.specs.Queues.{seen, pending}
 use Rattle.model.specs.Counters.{lacking}
 use Rattle.model.specs.Doubts.{Stand, Left, Falling}
-use Rattle.model.proofs.Bytes.{set-gone, set-same}
 use Rattle.model.proofs.Counting.{counts-same, counts-owe, counts-most}
 use Rattle.model.proofs.Positions.{lacking-plain, lacking-same, lacking-gone}
 use Rattle.model.proofs.Queues.{seen-at, seen-other, queue-room, queue-push, pending-skip, pending-here, pending-gone, pending-other, pending-this}

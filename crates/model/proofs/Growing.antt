@@ -13,14 +13,14 @@ use native.Mathlib.Omega.{arith}
 use native.Mathlib.Decide.{ℕ-discrete}
 use lib.Dec.{T}
 use lib.ListN.{getD, set}
+use Rattle.base.specs.Sets.{setOf}
 use Rattle.base.proofs.Bools.{neither}
+use Rattle.base.proofs.ByteSets.{set-same, set-within}
 use Rattle.job.specs.Accepted.{WellFormed}
 use Rattle.job.specs.Format.{claims, rules, literals, headAt}
-use Rattle.model.specs.Passes.{setOf}
 use Rattle.model.specs.Positions.{keyAt, Owned, waiting}
 use Rattle.model.specs.Queues.{seen, pending, Joined}
 use Rattle.model.specs.Counters.{lacking, Aim, Growing}
-use Rattle.model.proofs.Bytes.{set-same, set-within}
 use Rattle.model.proofs.Joining.{fits-unseen, fits-room, fits-join}
 use Rattle.model.proofs.Waiting.{waiting-done}
 use Rattle.model.proofs.Counting.{counts-same, counts-some, counts-pay}

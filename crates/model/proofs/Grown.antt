@@ -12,7 +12,7 @@ use mathlib.Core.List.{List}
 use native.Mathlib.Omega.{arith}
 use lib.Dec.{T, T-not}
 use lib.ListN.{length}
-use Rattle.base.specs.Sets.{Claims, _⊆_}
+use Rattle.base.specs.Sets.{Claims, _⊆_, setOf}
 use Rattle.base.proofs.Bools.{is-not, same, and-right}
 use Rattle.job.specs.Job.{claimOf}
 use Rattle.job.specs.Accepted.{WellFormed}
@@ -20,7 +20,7 @@ use Rattle.job.specs.Format.{claims, rules, literals, headAt, missingAt, litera
 use Rattle.job.specs.declared.Literal.{Literal}
 use Rattle.job.specs.declared.Literal.the-variants.{Plain, Negated}
 use Rattle.semantics.specs.Model.{holds, D}
-use Rattle.model.specs.Passes.{setOf, givenProgram}
+use Rattle.model.specs.Exchanged.{givenProgram}
 use Rattle.model.specs.Positions.{keyOf, keyAt, keys, owners, Owned, Counts, needBase, failBase}
 use Rattle.model.specs.Queues.{seen, Queue, pending, Joins, none, more}
 use Rattle.model.specs.Counters.{lacking, Aim, Closed, Ready, Growing, Given, Idle}

@@ -12,10 +12,10 @@ use native.Mathlib.Decide.{ℕ-discrete}
 use lib.Dec.{T}
 use lib.ListN.{length, getD, set, length-set}
 use lib.Seq.{getD-set-other}
+use Rattle.base.specs.Sets.{setOf}
 use Rattle.base.proofs.Bools.{is, is-not, is-true, is-false}
-use Rattle.model.specs.Passes.{setOf}
+use Rattle.base.proofs.ByteSets.{set-there, set-same, set-keeps}
 use Rattle.model.specs.Queues.{seen, Joined, Joins, none, more, Fits, Grown}
-use Rattle.model.proofs.Bytes.{set-there, set-same, set-keeps}
 use Rattle.model.proofs.Queues.{seen-other, seen-this, queue-room, queue-push}
 
 -- claim c is not in the set

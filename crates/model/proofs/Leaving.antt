@@ -16,13 +16,12 @@ use borrow.Author.Tests.{ne-eqb, eq-eqb, not-false}
 use lib.Dec.{T, eqb}
 use lib.ListN.{length, getD, set}
 use lib.Seq.{getD-set-same, getD-set-other}
-use Rattle.base.specs.Sets.{_⊆_}
+use Rattle.base.specs.Sets.{_⊆_, setOf}
 use Rattle.base.proofs.Bools.{is, is-true, neither, or-left, or-cases}
+use Rattle.base.proofs.ByteSets.{set-gone, set-same}
 use Rattle.job.specs.Format.{headAt}
-use Rattle.model.specs.Passes.{setOf}
 use Rattle.model.specs.Queues.{seen}
 use Rattle.model.specs.Doubts.{stays, Left, Owed, Fallen}
-use Rattle.model.proofs.Bytes.{set-gone, set-same}
 use Rattle.model.proofs.Queues.{seen-later, seen-other, seen-this, seen-same}
 
 module _ (k u : List ℕ) (c : ℕ) where

@@ -1,6 +1,3 @@
-pub mod Bytes
-pub mod Known
-pub mod Rules
 pub mod Waiting
 pub mod Lacking
 pub mod Keys

@@ -17,8 +17,8 @@ use native.Mathlib.Decide.{ℕ-discrete}
 use borrow.Author.Tests.{ne-eqb}
 use lib.Dec.{T}
 use lib.ListN.{length, getD, set, length-set}
+use Rattle.base.specs.Sets.{setOf}
 use Rattle.base.proofs.Bools.{is-true}
-use Rattle.model.specs.Passes.{setOf}
 use Rattle.model.specs.Queues.{seen, Queue}
 use Rattle.model.specs.Doubts.{Doubted, Lost}
 use Rattle.model.proofs.Queues.{seen-next, seen-at, seen-other, seen-this, queue-room, queue-push}

@@ -29,7 +29,7 @@ use Rattle.job.specs.Accepted.{WellFormed}
 use Rattle.job.proofs.Parts.{bodyStart-next, body-within}
 use Rattle.job.proofs.Contiguous.{three}
 use Rattle.model.specs.Positions.{ownerAt, owners, Within, Owned, waiting, Counts, everyPosition}
-use Rattle.model.proofs.Rules.{body-first}
+use Rattle.job.proofs.Parts.{body-first}
 
 pub count-shift :
     (f g : Claims) (a b : ℕ) → a ≤ b → ((p : ℕ) → a ≤ p → p < b → g p ≡ f p) → count g b + count f a ≡ count f b + count g a

@@ -13,10 +13,9 @@ use native.Mathlib.Decide.{ℕ-discrete}
 use lib.Dec.{T}
 use lib.ListN.{length, getD, set}
 use lib.Seq.{getD-set-same, getD-set-other}
-use Rattle.base.specs.Sets.{_⊆_}
+use Rattle.base.specs.Sets.{_⊆_, setOf}
 use Rattle.job.specs.Accepted.{WellFormed}
 use Rattle.job.specs.Format.{claims, rules, literals, headAt}
-use Rattle.model.specs.Passes.{setOf}
 use Rattle.model.specs.Positions.{keyAt, tally, startOf, owners, Owned, Placed}
 use Rattle.model.specs.Queues.{Joined, Fits}
 use Rattle.model.specs.Counters.{Aim, Ready, Growing, Paid, Carried, Raised}

@@ -14,9 +14,9 @@ use native.Mathlib.Omega.{arith}
 use native.Mathlib.Decide.{ℕ-discrete}
 use lib.Dec.{T}
 use lib.ListN.{length, getD}
+use Rattle.base.specs.Sets.{setOf}
 use Rattle.base.proofs.Bools.{is-not}
 use Rattle.job.specs.Format.{claims}
-use Rattle.model.specs.Passes.{setOf}
 use Rattle.model.specs.Positions.{keys}
 use Rattle.model.specs.Queues.{seen, Joined, Joins, none, more, Fits}
 use Rattle.model.specs.Counters.{Idle}

@@ -9,7 +9,7 @@ use mathlib.Core.List.{List}
 use mathlib.Core.Logic.{by-cases}
 use lib.Dec.{T}
 use lib.ListN.{getD}
-use Rattle.base.specs.Sets.{Claims, _⊆_, iterate}
+use Rattle.base.specs.Sets.{Claims, _⊆_, iterate, setOf}
 use Rattle.base.proofs.Choose.{t?}
 use Rattle.job.specs.Format.{rules, headAt, literalAt}
 use Rattle.job.specs.Accepted.{WellFormed}
@@ -17,7 +17,7 @@ use Rattle.job.specs.declared.Literal.{Literal}
 use Rattle.job.specs.declared.Literal.the-variants.{Plain, Negated}
 use Rattle.semantics.specs.Model.{Program, holds, step, D}
 use Rattle.semantics.proofs.LeastSet.{step-more, D-closed}
-use Rattle.model.specs.Passes.{setOf, givenProgram}
+use Rattle.model.specs.Exchanged.{givenProgram}
 use Rattle.model.specs.Positions.{Within, Owned, Counts, failBase}
 use Rattle.model.specs.Counters.{lacking}
 use Rattle.model.specs.Doubts.{Kept}

@@ -11,21 +11,21 @@ use mathlib.Core.Logic.{_⊎_, ⊎-elim}
 use native.Mathlib.Omega.{arith}
 use lib.Dec.{T, T-not, not-T}
 use lib.ListN.{length, getD}
-use Rattle.base.specs.Sets.{Claims, _⊆_, one}
+use Rattle.base.specs.Sets.{Claims, _⊆_, one, setOf}
 use Rattle.base.proofs.Bools.{is, is-not, or-cases, and-left}
+use Rattle.base.proofs.ByteSets.{set-yes}
 use Rattle.job.specs.Accepted.{WellFormed}
 use Rattle.job.specs.Format.{claims, rules, literals, headAt, missingAt, literalAt}
 use Rattle.job.specs.declared.Literal.{Literal}
 use Rattle.job.specs.declared.Literal.the-variants.{Plain, Negated}
 use Rattle.job.proofs.Lengths.{missing-none}
 use Rattle.semantics.specs.Model.{holds, D}
-use Rattle.model.specs.Passes.{setOf, givenProgram}
+use Rattle.model.specs.Exchanged.{givenProgram}
 use Rattle.model.specs.Positions.{keyOf, keyAt, keys, owners, Counts, failBase}
 use Rattle.model.specs.Queues.{seen, pending}
 use Rattle.model.specs.Counters.{lacking, Aim, Ready, Growing, Raised, Idle, givenTo}
 use Rattle.model.specs.Doubts.{Stand, Falling, Sunk, Negations, Recovered}
 use Rattle.model.specs.Rounds.{Round, Upper, aimK, Poised, Risen, Course, Fell}
-use Rattle.model.proofs.Bytes.{set-yes}
 use Rattle.model.proofs.Beginning.{given-some, given-is}
 use Rattle.model.proofs.Counting.{counts-same}
 use Rattle.model.proofs.Queues.{pending-end, pending-start}

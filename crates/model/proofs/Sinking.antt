@@ -14,10 +14,9 @@ use native.Mathlib.Decide.{ℕ-discrete}
 use lib.Dec.{T}
 use lib.ListN.{length, getD, set}
 use lib.Seq.{getD-set-other}
-use Rattle.base.specs.Sets.{Claims, _⊆_}
+use Rattle.base.specs.Sets.{Claims, _⊆_, setOf}
 use Rattle.job.specs.Accepted.{WellFormed}
 use Rattle.job.specs.Format.{claims, rules, literals, headAt}
-use Rattle.model.specs.Passes.{setOf}
 use Rattle.model.specs.Positions.{keyAt, keys, tally, startOf, owners, Owned, Placed}
 use Rattle.model.specs.Doubts.{Stand, stays, Left, Owed, Falling, Kept, Sunk}
 use Rattle.model.proofs.Queues.{queue-top, pending-skip, pending-next}

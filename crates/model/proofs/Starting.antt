@@ -12,8 +12,9 @@ use native.Mathlib.Decide.{decLt}
 use borrow.Author.Tests.{lt-ltb, le-ltb}
 use lib.Dec.{T, T-not, not-T, ltb}
 use lib.ListN.{length, getD}
-use Rattle.base.specs.Sets.{Claims, _⊆_, nothing}
+use Rattle.base.specs.Sets.{Claims, _⊆_, nothing, setOf}
 use Rattle.base.proofs.Bools.{is, is-not, is-true, is-false}
+use Rattle.base.proofs.ByteSets.{set-below, set-empty}
 use Rattle.job.specs.Job.{claimOf}
 use Rattle.job.specs.Accepted.{WellFormed}
 use Rattle.job.specs.Format.{claims, rules, literals, literalAt}
@@ -21,13 +22,12 @@ use Rattle.job.specs.declared.Literal.{Literal}
 use Rattle.job.specs.declared.Literal.the-variants.{Plain, Negated}
 use Rattle.semantics.specs.Model.{holds, D}
 use Rattle.semantics.proofs.LeastSet.{D-closed}
-use Rattle.model.specs.Passes.{setOf, givenProgram}
+use Rattle.model.specs.Exchanged.{givenProgram}
 use Rattle.model.specs.Positions.{keys, owners, Counts, needBase, failBase, plainLiteral, plainPosition, everyPosition}
 use Rattle.model.specs.Queues.{seen, Queue, Grown}
 use Rattle.model.specs.Counters.{lacking, Aim, Closed, Growing, Raised, Idle, Given, Begun}
 use Rattle.model.specs.Doubts.{Doubted, Lost}
 use Rattle.model.specs.Rounds.{Upper, Poised}
-use Rattle.model.proofs.Bytes.{set-below, set-empty}
 use Rattle.model.proofs.Counting.{counts-same}
 use Rattle.model.proofs.Queues.{seen-none, seen-small}
 use Rattle.model.proofs.Owning.{owners-owned}

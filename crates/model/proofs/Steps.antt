@@ -1,4 +1,5 @@
 -- A step of the exchanged program of a job of bytes s with known verdicts g, by the rule or the verdict that makes it. Assumes nothing.
+--   claims-given                          how many claims that program has
 --   fail-byte, -none, need-parts, -none   a rule that counts nothing for ever
 --   step-rule, step-missing               a step by a rule, and by a missing record
 --   step-true, step-undefined             a step by a known verdict
@@ -14,7 +15,7 @@ use native.Mathlib.Decide.{ℕ-discrete}
 use borrow.Author.Tests.{eq-eqb, eqb-true}
 use lib.Dec.{T, T-not, not-T, eqb}
 use lib.ListN.{getD}
-use Rattle.base.specs.Sets.{Claims, one}
+use Rattle.base.specs.Sets.{Claims, one, setOf}
 use Rattle.base.specs.Span.{span}
 use Rattle.base.proofs.Bools.{neither}
 use Rattle.base.proofs.Members.{span-all, span-at}
@@ -28,10 +29,13 @@ use Rattle.semantics.specs.Model.{Body, bodyOf, bodiesBy, program, holds, step,
 use Rattle.semantics.proofs.Bodies.{bodies-at, bodies-out}
 use Rattle.semantics.proofs.LeastSet.{step-inside, step-of, step-by}
 use Rattle.semantics.proofs.Extended.{either, body-missing, body-own}
-use Rattle.model.specs.Passes.{setOf, givenProgram}
+use Rattle.model.specs.Exchanged.{givenProgram}
 use Rattle.model.specs.Positions.{Within, failBase, needBase}
-use Rattle.model.proofs.Known.{verdict-none, verdict-true, verdict-false, verdict-undefined}
-use Rattle.model.proofs.Rules.{claims-given}
+use Rattle.semantics.proofs.Known.{verdict-none, verdict-true, verdict-false, verdict-undefined}
+
+pub claims-given : (s g : List ℕ) → givenProgram s g .claims ≡ claims s
+unfolding program jobOf
+claims-given s g = refl
 
 -- a rule that counts nothing for ever
 none-counted : (b : Bool) → one b ≡ 0 → b ≡ false

@@ -6,10 +6,10 @@ use mathlib.Core.List.{List}
 use borrow.Author.Tests.{eq-eqb, ne-eqb}
 use lib.Dec.{ltb}
 use lib.ListN.{getD, set}
+use Rattle.base.proofs.ByteSets.{set-yes, set-no}
 use Rattle.job.specs.Format.{headAt}
 use Rattle.model.specs.Queues.{Joined, JoinedIf}
 use Rattle.model.specs.Counters.{Paid, givenTo}
-use Rattle.model.proofs.Bytes.{set-yes, set-no}
 
 module _ (w q : List ℕ) (t c : ℕ) where
   pub joined-in : (getD w c 0 ≡ 0 → ⊥) → Joined c w q t w q t

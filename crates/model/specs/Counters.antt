@@ -19,10 +19,9 @@ use mathlib.Core.List.{List}
 use mathlib.Core.Logic.{_⊎_}
 use lib.Dec.{T, ltb, eqb}
 use lib.ListN.{length, getD, set}
-use Rattle.base.specs.Sets.{Claims, _⊆_}
+use Rattle.base.specs.Sets.{Claims, _⊆_, setOf}
 use Rattle.job.specs.Format.{claims, rules, literals, headAt, literalAt}
 use Rattle.semantics.specs.Model.{holds}
-use Rattle.model.specs.Passes.{setOf}
 use Rattle.model.specs.Positions.{Within, Counts}
 use Rattle.model.specs.Queues.{seen, pending, Joined, Joins, Fits, Grown}
 

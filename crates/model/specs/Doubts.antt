@@ -14,9 +14,8 @@ use mathlib.Core.Bool.{Bool, false, not, cond, _&&_, _||_}
 use mathlib.Core.List.{List}
 use lib.Dec.{T}
 use lib.ListN.{length, getD, set}
-use Rattle.base.specs.Sets.{Claims, _⊆_}
+use Rattle.base.specs.Sets.{Claims, _⊆_, setOf}
 use Rattle.job.specs.Format.{claims, rules, literals, headAt}
-use Rattle.model.specs.Passes.{setOf}
 use Rattle.model.specs.Positions.{keys, Counts}
 use Rattle.model.specs.Queues.{seen, Queue, pending, Joins}
 use Rattle.model.specs.Counters.{lacking, Carried, Idle}

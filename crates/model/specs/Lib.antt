@@ -1,5 +1,5 @@
+pub mod Exchanged
 pub mod Output
-pub mod Passes
 pub mod Positions
 pub mod Placing
 pub mod Queues

@@ -14,8 +14,7 @@ use mathlib.Core.Bool.{Bool, true, false, not, cond, _&&_, _||_}
 use mathlib.Core.List.{List}
 use lib.Dec.{T, ltb, eqb}
 use lib.ListN.{length, getD, set}
-use Rattle.base.specs.Sets.{Claims, _⊆_}
-use Rattle.model.specs.Passes.{setOf}
+use Rattle.base.specs.Sets.{Claims, _⊆_, setOf}
 use Rattle.model.specs.Positions.{keyAt}
 
 unfoldable pub seen : List ℕ → ℕ → Claims

@@ -7,7 +7,6 @@ pub mod evaluate;
 mod occurrences;
 mod recover;
 mod rooms;
-pub mod sets;
 mod verdicts;
 
 // The bytes of verdicts (semantics/specs/Model: byteOf), and that of a claim whose verdict is not known.

@@ -2,21 +2,21 @@
 ghost use mathlib.Core.Path.{_≡_};
 ghost use Prim.Native.Nat.{_≤_};
 ghost use lib.ListN.{length};
+ghost use Rattle.base.specs.Sets.{setOf};
 ghost use Rattle.model.specs.Output.{judgedByte, judgedOutput};
-ghost use Rattle.model.specs.Passes.{setOf};
 use crate::FALSE;
 use crate::TRUE;
 use crate::UNDEFINED;
-use crate::sets;
+use base::byte_sets;
 
 // The byte of claim c's verdict, by K and U.
 fn byte_of(k: &[u8], u: &[u8], c: usize) -> u8
     ensures { λ r. ⌜ r ≡ judgedByte (setOf (now (k .entry))) (setOf (now (u .entry))) c ⌝ }
 {
-    if sets::member(k, c) {
+    if byte_sets::member(k, c) {
         return TRUE;
     }
-    if sets::member(u, c) {
+    if byte_sets::member(u, c) {
         return UNDEFINED;
     }
     FALSE

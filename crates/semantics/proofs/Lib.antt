@@ -3,6 +3,7 @@ pub mod LeastSet
 pub mod Alternation
 pub mod Exchange
 pub mod Theorems
+pub mod Known
 pub mod ByRule
 pub mod Bodies
 pub mod Extends

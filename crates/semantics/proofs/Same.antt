@@ -8,7 +8,7 @@ use Rattle.job.specs.declared.Literal.the-variants.{Plain, Negated}
 use Rattle.semantics.specs.Model.{Program, K, U, True, False, Undefined, judge, verdict}
 use Rattle.semantics.specs.Unfounded.{wellFounded, verdictBy}
 use Rattle.semantics.specs.Textbook.{BothWordings}
-use Rattle.semantics.proofs.Theorems.{leastSet, alternation, meaning}
+use Rattle.semantics.proofs.Theorems.{leastSet, alternation, meaning, sameModel}
 use Rattle.semantics.proofs.Greatest.{greatestUnfounded}
 use Rattle.semantics.proofs.Alternating.{alternating, alternating-closed, alternating-least}
 use Rattle.semantics.proofs.Reached.{operator, reached, reached-least, leastFixpoint}
@@ -34,6 +34,7 @@ module _ (P : Program) where
         leastSet = leastSet P;
         alternation = alternation P;
         meaning = meaning P;
+        sameModel = sameModel P;
         greatestUnfounded = greatestUnfounded P;
         operator = operator P;
         leastFixpoint = leastFixpoint P;

@@ -15,7 +15,7 @@ use Rattle.base.specs.Sets.{Claims, _⊆_}
 use Rattle.job.specs.Job.{Job}
 use Rattle.job.specs.declared.Literal.the-variants.{Plain, Negated}
 use Rattle.semantics.specs.Model.{Program, programOf, K, U, verdict}
-use Rattle.semantics.specs.Theorems.{LeastSet, Alternation, Meaning}
+use Rattle.semantics.specs.Theorems.{LeastSet, Alternation, Meaning, SameModel}
 use Rattle.semantics.specs.Missing.{extended, asWritten}
 use Rattle.semantics.specs.Unfounded.{Interpretation, Consistent, Unfounded, AnyUnfounded, unfounded, AnyTrue, W, wellFounded, _⊑_, verdictBy}
 use Rattle.semantics.specs.Leads.{NotUndefined}
@@ -45,6 +45,7 @@ pub record BothWordings (P : Program) : Type 0 where
   pub leastSet : LeastSet P
   pub alternation : Alternation P
   pub meaning : Meaning P
+  pub sameModel : SameModel P
   -- the textbook's
   pub greatestUnfounded : (I : Interpretation) → GreatestUnfounded P I
   pub operator : (I : Interpretation) → Operator P I

@@ -2,9 +2,8 @@
 use mathlib.Core.Path.{_≡_, refl, _∙_}
 use native.Mathlib.Omega.{arith}
 use lib.ListN.{length}
-use Rattle.base.specs.Sets.{Claims, nothing, count}
+use Rattle.base.specs.Sets.{Claims, nothing, count, setOf}
 use Rattle.job.specs.Format.{claims}
-use Rattle.model.specs.Passes.{setOf}
 use Rattle.model.specs.Rounds.{Poised}
 use Rattle.model.proofs.Shrinking.{risen-by}
 use Rattle.model.proofs.Alternating.{poised-next, poised-stops, poised-less}

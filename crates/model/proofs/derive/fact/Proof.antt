@@ -2,7 +2,7 @@
 use mathlib.Core.Path.{refl, sym, _∙_, ap}
 use native.Mathlib.Omega.{arith}
 use borrow.Author.Tests.{eq-eqb, ne-eqb}
-use Rattle.model.specs.Passes.{setOf}
+use Rattle.base.specs.Sets.{setOf}
 use Rattle.model.proofs.Stores.{joined-if, joined-not}
 use borrow.Author.Needs.{needs}
 use Rattle.model.proofs.derive.fact.Statement.{statement}

@@ -5,7 +5,7 @@ use native.Mathlib.Omega.{arith}
 use lib.ListN.{length}
 use Rattle.job.specs.Format.{rules}
 use Rattle.model.specs.Counters.{Ready}
-use Rattle.model.proofs.Rules.{header-room}
+use Rattle.job.proofs.Accepted.{header-room}
 use Rattle.model.proofs.Joining.{fits-room}
 use Rattle.model.proofs.Beginning.{Facting, facting-start, facting-more}
 use Rattle.model.proofs.derive.facts.Statement.{statement}

@@ -1,6 +1,6 @@
 -- `model::derive::join` meets its contract. Assumes nothing.
 use native.Mathlib.Omega.{arith}
-use Rattle.model.proofs.Bytes.{set-no}
+use Rattle.base.proofs.ByteSets.{set-no}
 use Rattle.model.proofs.Stores.{joined-in, joined-new}
 use borrow.Author.Needs.{needs}
 use Rattle.model.proofs.derive.join.Statement.{statement}

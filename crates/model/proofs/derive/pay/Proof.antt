@@ -1,7 +1,7 @@
 -- `model::derive::pay` meets its contract. Assumes nothing.
 use mathlib.Core.Path.{sym, _∙_, ap}
 use native.Mathlib.Omega.{arith}
-use Rattle.model.specs.Passes.{setOf}
+use Rattle.base.specs.Sets.{setOf}
 use Rattle.model.proofs.Stores.{paid-waits, paid-joins}
 use borrow.Author.Needs.{needs}
 use Rattle.model.proofs.derive.pay.Statement.{statement}

@@ -5,7 +5,7 @@ use mathlib.Core.Path.{_≡_}
 use mathlib.Core.Logic.{⊎-elim}
 use native.Mathlib.Omega.{arith}
 use lib.ListN.{length, getD}
-use Rattle.model.proofs.Bytes.{set-yes, set-no}
+use Rattle.base.proofs.ByteSets.{set-yes, set-no}
 use Rattle.model.proofs.Queues.{queue-top}
 use Rattle.model.proofs.Doubting.{doubted-key, doubted-small}
 use Rattle.model.proofs.Losing.{Losing, losing-start, losing-room, losing-push, losing-skip, losing-is, losing-done}

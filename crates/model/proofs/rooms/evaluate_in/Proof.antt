@@ -2,7 +2,7 @@
 use mathlib.Core.Path.{_∙_}
 use native.Mathlib.Omega.{arith}
 use Rattle.model.proofs.Written.{written-verdicts}
-use Rattle.model.proofs.Rules.{claims-given}
+use Rattle.model.proofs.Steps.{claims-given}
 use borrow.Author.Needs.{needs}
 use Rattle.model.proofs.rooms.evaluate_in.Statement.{statement}
 use Rattle.model.proofs.rooms.evaluate_in.Tie as tie

@@ -5,8 +5,8 @@ use mathlib.Core.List.{_++_}
 use mathlib.Core.Path.{_≡_, refl}
 use native.Mathlib.Omega.{arith}
 use lib.ListN.{length, drop, length-set}
+use Rattle.base.specs.Sets.{setOf}
 use Rattle.base.specs.Span.{span}
-use Rattle.model.specs.Passes.{setOf}
 use Rattle.model.specs.Output.{judgedByte}
 use Rattle.base.proofs.Written.{written-start, written-more, written-whole}
 use Rattle.model.proofs.verdicts.write.Statement.{statement}

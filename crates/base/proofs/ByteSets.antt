@@ -14,8 +14,7 @@ use borrow.Author.Tests.{ne-eqb, eq-eqb}
 use lib.ListN.{length, set, getD, List·getD-eq-default}
 use lib.Dec.{T, eqb}
 use lib.Seq.{getD-set-same, getD-set-other}
-use Rattle.base.specs.Sets.{Claims, _⊆_}
-use Rattle.model.specs.Passes.{setOf}
+use Rattle.base.specs.Sets.{Claims, _⊆_, setOf}
 
 pub cleared-more : (w : List ℕ) (i : ℕ) → i < length w → ((k : ℕ) → k < i → getD w k 0 ≡ 0) → (k : ℕ) → k < i + 1 → getD (set w i 0) k 0 ≡ 0
 cleared-more w i h f k lt =

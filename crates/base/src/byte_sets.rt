@@ -1,8 +1,8 @@
-// Sets of claims, a byte a claim: a claim is in the set where its byte is not 0. The contracts cite specs/Passes.
+// Sets of claims, a byte a claim: a claim is in the set where its byte is not 0. The contracts cite specs/Sets.
 ghost use mathlib.Core.Path.{_≡_};
 ghost use Prim.Native.Nat.{ℕ};
 ghost use lib.ListN.{getD};
-ghost use Rattle.model.specs.Passes.{setOf};
+ghost use Rattle.base.specs.Sets.{setOf};
 
 // Whether the set has claim c; a claim past its bytes is not in it.
 pub fn member(w: &[u8], c: usize) -> bool
