@@ -1,6 +1,6 @@
 -- Every answer of the checks fits a code, and is read back from it. Assumes nothing.
 use Prim.Native.Nat.{ℕ, zero, suc, _+_, _*_, _-_, _/_, _%_, _<_, _≤_}
-use mathlib.Core.Path.{_≡_, refl, sym}
+use mathlib.Core.Path.{_≡_, refl, sym, _∙_, ap, subst}
 use mathlib.Core.Bool.{Bool, true, false}
 use mathlib.Core.List.{List}
 use native.Mathlib.Omega.{arith}
@@ -18,7 +18,7 @@ use Rattle.job.proofs.Accepted.{header-sized, well-formed}
 use Rattle.job.specs.declared.Check.{Check}
 use Rattle.job.specs.declared.Check.the-variants.{Accepted, Refused}
 use Rattle.model.specs.Output.{checkPlain}
-use Rattle.zestchintz.specs.Code.{refusalCode, codeOf, readCode, Told, Answered, CodeReads}
+use Rattle.zestchintz.specs.Code.{refusalCode, codeOf, readCode, Told, Answered, Coded}
 
 -- every refusal of a check can be told
 Tells : Check → Type 0
@@ -136,10 +136,14 @@ module _ (s : List ℕ) (short : length s < 9223372036854775808) where
   unfolding checkPlain
   plain-answered n = answered (checkPlain s n) (λ e. well-formed s (both _ _ (sym e) .0)) (tells-plain n)
 
-  reads : (check : Check) → Answered s check → readCode (codeOf (claims s) check) ≡ check
-  unfolding codeOf
-  reads Accepted a = read-claims (claims s) (a .few refl)
-  reads (Refused number place) a = read-refusal number place (a .told number place refl)
+-- the code of such an answer
+pub coded : {s : List ℕ} {check : Check} {r : ℕ} → Answered s check → r ≡ codeOf (claims s) check → Coded s check r
+unfolding codeOf
+coded {s} {check} a e = record { code = e; back = ap readCode e ∙ reads check a }
+  where
+    reads : (x : Check) → Answered s x → readCode (codeOf (claims s) x) ≡ x
+    reads Accepted a = read-claims (claims s) (a .few refl)
+    reads (Refused number place) a = read-refusal number place (a .told number place refl)
 
-pub code-reads : CodeReads
-code-reads = record { check = λ s h. reads s h (checkJob s) (job-answered s h); evaluate = λ s n h. reads s h (checkPlain s n) (plain-answered s h n) }
+pub coded-as : {s : List ℕ} {x y : Check} {r : ℕ} → x ≡ y → Coded s x r → Coded s y r
+coded-as {s} {x} {y} {r} e k = subst (λ (z : Check). Coded s z r) e k

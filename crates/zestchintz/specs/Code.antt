@@ -4,7 +4,7 @@
 --   readCode code              what a reader makes of a code
 --   Told number place          the refusals that a code can carry
 --   Answered s check           the answers on a job s that a code can carry
---   CodeReads                  every answer of the two calls is read back from its code
+--   Coded s check r            r is the code of an answer on job s, and the answer is read back from it
 use Prim.Native.Nat.{ℕ, _+_, _*_, _/_, _%_, _-_, _<_, _≤_}
 use mathlib.Core.Path.{_≡_}
 use mathlib.Core.Bool.{cond}
@@ -12,10 +12,8 @@ use mathlib.Core.List.{List}
 use lib.Dec.{eqb, ltb}
 use lib.ListN.{length}
 use Rattle.job.specs.Format.{claims}
-use Rattle.job.specs.Checks.{checkJob}
 use Rattle.job.specs.declared.Check.{Check}
 use Rattle.job.specs.declared.Check.the-variants.{Accepted, Refused}
-use Rattle.model.specs.Output.{checkPlain}
 
 unfoldable pub refusalCode : ℕ → ℕ → ℕ
 refusalCode number place = cond (eqb number 1) (9223372036854775808 + place) (number * 4294967296 + place)
@@ -41,6 +39,6 @@ pub record Answered (s : List ℕ) (check : Check) : Type 0 where
   pub few : check ≡ Accepted → claims s < 4294967296
   pub told : (number place : ℕ) → check ≡ Refused number place → Told number place
 
-pub record CodeReads : Type 0 where
-  pub check : (s : List ℕ) → length s < 9223372036854775808 → readCode (codeOf (claims s) (checkJob s)) ≡ checkJob s
-  pub evaluate : (s : List ℕ) (n : ℕ) → length s < 9223372036854775808 → readCode (codeOf (claims s) (checkPlain s n)) ≡ checkPlain s n
+pub record Coded (s : List ℕ) (check : Check) (r : ℕ) : Type 0 where
+  pub code : r ≡ codeOf (claims s) check
+  pub back : readCode r ≡ check

@@ -3,6 +3,7 @@ use mathlib.Core.Path.{sym, _∙_, ap}
 use borrow.Author.Needs.{needs}
 use Rattle.job.specs.Format.{claims}
 use Rattle.zestchintz.specs.Code.{codeOf}
+use Rattle.zestchintz.proofs.Answers.{coded}
 use Rattle.zestchintz.proofs.code_of.Statement.{statement}
 use Rattle.zestchintz.proofs.code_of.Tie as tie
 
@@ -20,11 +21,14 @@ refusal-code-requires c κs = c .before .before .before .before .pre .told _ _ (
 
 returns : tie.Need-returns
 unfolding codeOf
-returns c = c .claim-count .ensures .value ∙ sym (ap (codeOf _) (c .before .enum-told .given .1))
+returns c =
+    coded (c .before .before .before .before .pre) (c .claim-count .ensures .value ∙ sym (ap (codeOf _) (c .before .enum-told .given .1)))
 
 returns-2 : tie.Need-returns-2
 unfolding codeOf
-returns-2 c = c .refusal-code .ensures ∙ sym (ap (codeOf (claims (c .before .before .before .before .before .args .job .now))) (c .before .before .check .given .1))
+returns-2 c =
+    let start = c .before .before .before .before .before in
+    coded (start .pre) (c .refusal-code .ensures ∙ sym (ap (codeOf (claims (start .args .job .now))) (c .before .before .check .given .1)))
 
 pub code-of-spec : {M : Type 1} → statement M
 code-of-spec =

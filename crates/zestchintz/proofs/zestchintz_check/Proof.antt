@@ -1,11 +1,11 @@
 -- `zestchintz::zestchintz_check` meets its contract. Assumes nothing.
 use Prim.Native.Nat.{_<_}
-use mathlib.Core.Path.{_∙_, ap, subst⁻¹}
+use mathlib.Core.Path.{subst⁻¹}
 use native.Mathlib.Omega.{arith}
 use borrow.Author.Needs.{needs}
 use lib.ListN.{length}
-use Rattle.zestchintz.proofs.Answers.{job-answered}
-use Rattle.zestchintz.specs.Code.{codeOf, Answered}
+use Rattle.zestchintz.proofs.Answers.{job-answered, coded-as}
+use Rattle.zestchintz.specs.Code.{Answered}
 use Rattle.zestchintz.proofs.zestchintz_check.Statement.{statement}
 use Rattle.zestchintz.proofs.zestchintz_check.Tie as tie
 
@@ -19,7 +19,7 @@ code-of-requires c κs =
     subst⁻¹ (Answered s) (c .check-job .ensures .0) (job-answered s short)
 
 returns : tie.Need-returns
-returns c = c .code-of .ensures ∙ ap (codeOf _) (c .before .check-job .ensures .0)
+returns c = coded-as (c .before .check-job .ensures .0) (c .code-of .ensures)
 
 pub zestchintz-check-spec : {M : Type 1} → statement M
 zestchintz-check-spec = tie.close (tie.spec check-job-requires code-of-requires returns)

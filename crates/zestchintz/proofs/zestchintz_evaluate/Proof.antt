@@ -1,15 +1,14 @@
 -- `zestchintz::zestchintz_evaluate` meets its contract. Assumes nothing.
 use Prim.Native.Nat.{ℕ, _<_}
-use mathlib.Core.Path.{_≡_, _∙_, ap, subst, subst⁻¹}
+use mathlib.Core.Path.{_≡_, subst, subst⁻¹}
 use mathlib.Core.List.{List}
 use native.Mathlib.Omega.{arith}
 use borrow.Author.Needs.{needs}
 use lib.ListN.{length}
-use Rattle.job.specs.Format.{claims}
 use Rattle.job.specs.declared.Check.{Check}
 use Rattle.model.specs.Output.{Evaluated}
-use Rattle.zestchintz.proofs.Answers.{plain-answered}
-use Rattle.zestchintz.specs.Code.{codeOf, Answered}
+use Rattle.zestchintz.proofs.Answers.{plain-answered, coded-as}
+use Rattle.zestchintz.specs.Code.{Answered}
 use Rattle.zestchintz.proofs.zestchintz_evaluate.Statement.{statement}
 use Rattle.zestchintz.proofs.zestchintz_evaluate.Tie as tie
 
@@ -32,8 +31,7 @@ same-length c = search needs
 returns : tie.Need-returns
 returns c =
     let e = c .before .before .before .evaluate .ensures in
-    let s = c .before .before .before .before .before .before .before .args .job .now in
-    (c .code-of .ensures ∙ ap (codeOf (claims s)) (e .check), evaluated-as _ _ _ _ _ (e .check) e)
+    (coded-as (e .check) (c .code-of .ensures), evaluated-as _ _ _ _ _ (e .check) e)
 
 pub zestchintz-evaluate-spec : {M : Type 1} → statement M
 zestchintz-evaluate-spec =
