@@ -4,8 +4,10 @@
 --   rest             the end of a list, as a part of a slice reads it
 --   parts            what the two parts of an accepted input have, once its job's end is read
 --   refused-by, accepted-by, room-by   the text by the check; no-room, in-room   the text in the buffer
+--   check-short, check-room   the checks of a call, without room and with it
 use Prim.Native.Nat.{ℕ, zero, suc, _+_, _-_, _≤_, _<_}
 use mathlib.Core.Path.{_≡_, refl, sym, _∙_, ap, subst}
+use mathlib.Core.Bool.{Bool, true, false}
 use mathlib.Core.List.{List, _∷_, _++_}
 use native.Mathlib.Omega.{arith}
 use lib.ListN.{length, getD, take, drop, replicate, length-append, length-drop, length-replicate}
@@ -15,6 +17,7 @@ use Rattle.base.proofs.Compare.{over-le, under-yes, under-no}
 use Rattle.writing.specs.Written.{Put, wrote}
 use Rattle.job.specs.Accepted.{WellFormed}
 use Rattle.job.specs.Checks.{checkJob}
+use Rattle.job.specs.Rows.{_⨾_, row}
 use Rattle.job.specs.Format.{workers, jobOf}
 use Rattle.job.specs.declared.Check.{Check}
 use Rattle.job.specs.declared.Check.the-variants.{Accepted, Refused}
@@ -23,10 +26,10 @@ use Rattle.job.proofs.Rows.{both, row-no}
 use Rattle.job.proofs.Written.{questions-count}
 use Rattle.table.specs.Layout.{used}
 use Rattle.calls.proofs.Answering.{schedule-low}
-use Rattle.listing.specs.Listing.{jobEnd, jobPart, schedulePart, listingCheck, refusalLine, listed, listingIf, listing, roomLength, roomBytes}
+use Rattle.listing.specs.Listing.{jobEnd, jobPart, schedulePart, mostInput, listingCheck, listCheck, mostText, refusalLine, listed, listingIf, listing, roomLength, roomBytes}
 
 pub record AcceptedInput (i : List ℕ) : Type 0 where
-  pub short : length i ≤ 65536
+  pub short : length i ≤ mostInput
   pub job : Accepted ≡ checkJob (jobPart i)
   pub good : WellFormed (jobPart i)
   pub low : (k : ℕ) → k < length (schedulePart i) → getD (schedulePart i) k 0 < workers (jobPart i)
@@ -68,11 +71,11 @@ abbrev tail : List ℕ → ℕ → List ℕ
 tail i end = take (length i - end) (drop end i)
 
 abbrev Parts : List ℕ → ℕ → List ℕ → Type 0
-Parts i end ws = WellFormed (take end i) × ((k : ℕ) → k < length ws → getD ws k 0 < workers (take end i)) × (length ws ≤ 65536)
+Parts i end ws = WellFormed (take end i) × ((k : ℕ) → k < length ws → getD ws k 0 < workers (take end i)) × (length ws ≤ mostInput)
 
 pub parts : (i : List ℕ) (end : ℕ) → end ≡ jobEnd i → AcceptedInput i → Parts i end (tail i end)
 parts i end e a =
-    let short : length (schedulePart i) ≤ 65536 = omega (arith, length-drop (jobEnd i) i, a .short) in
+    let short : length (schedulePart i) ≤ mostInput = omega (arith, length-drop (jobEnd i) i, a .short) in
     let here : Parts i (jobEnd i) (schedulePart i) = (a .good, a .low, short) in
     subst (Parts i end) (sym (rest end i)) (subst (λ (k : ℕ). Parts i k (drop k i)) (sym e) here)
 
@@ -92,6 +95,25 @@ module _ (i : List ℕ) {check : Check} {buf out : List ℕ} {r : ℕ} where
   unfolding listing
   room-by e q = subst (λ (x : Check). Put buf 0 (listingIf x i) out r) e q
 
+-- the checks of a call
+row-refuses : (x y : Check) (number place : ℕ) {b : Bool} → b ≡ true → y ≡ x → y ⨾ Refused number place ≡ x ⨾ row b number place
+unfolding row
+row-refuses x y number place e q = rw (e, q)
+
+row-passes : (x : Check) (number place : ℕ) {b : Bool} → b ≡ false → x ≡ x ⨾ row b number place
+unfolding row _⨾_
+row-passes Accepted number place e = rw e
+row-passes (Refused n p) number place e = refl
+
+module _ (i : List ℕ) {check : Check} {n : ℕ} (checked : check ≡ listingCheck i) where
+  pub check-short : n < mostText → check ⨾ Refused 16 mostText ≡ listCheck i n
+  unfolding listCheck
+  check-short h = row-refuses (listingCheck i) check 16 mostText (under-yes _ _ h) checked
+
+  pub check-room : mostText ≤ n → check ≡ listCheck i n
+  unfolding listCheck
+  check-room h = checked ∙ row-passes (listingCheck i) 16 mostText (under-no _ _ h)
+
 -- the text in the buffer
 wrote-holds : (buf text : List ℕ) → length text ≤ length (wrote buf 0 text)
 unfolding wrote
@@ -99,11 +121,11 @@ wrote-holds buf text =
     omega (arith, length-append (take 0 buf) text, length-append (take 0 buf ++ text) (drop (0 + length text) buf))
 
 module _ (i buf : List ℕ) where
-  pub no-room : length buf < 196608 → (0 ≡ roomLength i buf) × (buf ≡ roomBytes i buf)
+  pub no-room : length buf < mostText → (0 ≡ roomLength i buf) × (buf ≡ roomBytes i buf)
   unfolding roomLength roomBytes
   no-room h = let e = under-yes _ _ h in (sym (pick-true _ _ _ e), sym (pick-true _ _ _ e))
 
-  pub in-room : {out : List ℕ} {r : ℕ} → 196608 ≤ length buf → Put buf 0 (listing i) out r → (r ≡ roomLength i buf) × (out ≡ roomBytes i buf) × (r ≤ length out)
+  pub in-room : {out : List ℕ} {r : ℕ} → mostText ≤ length buf → Put buf 0 (listing i) out r → (r ≡ roomLength i buf) × (out ≡ roomBytes i buf) × (r ≤ length out)
   unfolding roomLength roomBytes
   in-room h p =
       let e = under-no _ _ h in

@@ -50,7 +50,7 @@ use Rattle.listing.specs.Text.{blank, lineEnd, claimsWord, questionsWord
 use Rattle.listing.specs.Finish.{finishTurns, most}
 use Rattle.listing.specs.Listing.{jobPart, schedulePart, listingCheck, refusalLine, claimLine, questionLines, tallyLine, heading, textOf, questionLine, played, lastTable, listed, listingIf, listing}
 use Rattle.listing.specs.Told.{wordOf, verdictLine, Shows, Told}
-use Rattle.listing.proofs.Finished.{all-each, low-finish, finished-in}
+use Rattle.listing.proofs.Finished.{all-each, low-finish, finished-in, finished}
 use Rattle.listing.proofs.Accepting.{accepted-input}
 
 -- question i of a list, among those of its worker
@@ -292,4 +292,4 @@ module _ (i : List ℕ) (e : Accepted ≡ listingCheck i) where
       }
 
 pub told : (i : List ℕ) → Told i
-told i = record { some = listing-some i; shows = shows i }
+told i = record { some = listing-some i; shows = shows i; finished = λ e. finished (jobPart i) (accepted-input i e .job) }

@@ -35,6 +35,7 @@ finishTurns (suc n) j t w = pick (answeredAll j t) [] (w ∷ finishTurns n j (tu
 abbrev pub most : Job → ℕ
 most j = bound j * j .workers
 
+-- they answer all, also where their number ends them
 abbrev pub Finished : List ℕ → Type 0
 Finished s =
     (t : List ℕ) → Fresh s t → (ws : List ℕ) → ((i : ℕ) → i < length ws → getD ws i 0 < jobOf s .workers)

@@ -1,7 +1,8 @@
 -- The listing (01, 'The listing program'): from the input bytes to the exact bytes of the text.
 --   jobEnd i, jobPart i, schedulePart i   where the job ends in the input i, and its two parts
 --   mostInput, mostText   the longest input, and room for every text
---   listingCheck i     the checks of a listing, in the table's order
+--   listingCheck i     the checks of an input, in the table's order
+--   listCheck i n      the checks of a call that is lent n bytes: those of the input, then row 16
 --   refusalLine        `refused`, number, place
 --   claimLine, questionLine, tallyLine   the lines of the text
 --   answerLine w c r   the line of a question of worker w on claim c, whose answer reads r
@@ -14,7 +15,7 @@
 --   firstTable j, lastTable j ws   the table at the start, all its words used, and at the end
 --   listed j ws        the text of an accepted job and schedule
 --   listing i          the whole text
---   roomLength, roomBytes   the text's length, and the bytes of the buffer that it was written into
+--   roomLength i out, roomBytes i out   what a call that is lent `out` answers as the length, and leaves as its bytes
 use Prim.Native.Nat.{ℕ, _+_}
 use mathlib.Core.List.{List, [], _∷_, _++_, flatMap}
 use lib.ListN.{length, getD, take, drop, replicate}
@@ -123,7 +124,14 @@ listing i = listingIf (listingCheck i) i
 abbrev pub mostText : ℕ
 mostText = 196608
 
--- What a listing leaves where it is lent `out`: the text at its start; where `out` may be too short for some text, as it was.
+-- "Refused first, by number and place and with no lent memory altered: .. an output too short." (00, demand 1). The number is that of
+-- order 1, the place the bytes needed, and the row is the last. How long a text is shows only once the turns are played, so what is
+-- needed is room for every text. `listing i` goes by listingCheck i: no line says 16, since nothing is written where there is no room.
+unfoldable pub listCheck : List ℕ → ℕ → Check
+listCheck i n = listingCheck i ⨾ row (under n mostText) 16 mostText
+
+-- What a call that is lent `out` leaves. Where that has room for every text: the text at its start, a refusal's line too, and its
+-- length. Where it has not: refused by a check of the input, or else by 16; the length is 0, and every byte is as before.
 unfoldable pub roomLength : List ℕ → List ℕ → ℕ
 roomLength i out = pick (under (length out) mostText) 0 (length (listing i))
 

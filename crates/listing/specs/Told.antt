@@ -2,6 +2,7 @@
 --   wordOf v           the name of a verdict
 --   verdictLine j q    the line of question q that has its claim's verdict; valueLine j c   the line of claim c that has its verdict
 --   unopenedLine c     the line of a claim that has none
+--   Shows j t          what the lines of job j show, whose table is t at the end
 --   Told i             what holds of the listing of input i, whatever its schedule
 use Prim.Native.Nat.{ℕ, _<_, _≤_}
 use mathlib.Core.Path.{_≡_}
@@ -22,6 +23,7 @@ use Rattle.table.specs.declared.Reading.the-variants.{Open}
 use Rattle.calls.specs.Lists.{Complete}
 use Rattle.calls.specs.Promise.{Asked, OthersBehind}
 use Rattle.listing.specs.Text.{blank, lineEnd, trueName, falseName, undefinedName, unopenedName}
+use Rattle.listing.specs.Finish.{Finished}
 use Rattle.listing.specs.Listing.{jobPart, schedulePart, listingCheck, claimLine, questionLines, lastTable, listing}
 
 abbrev pub wordOf : Verdict → List ℕ
@@ -61,6 +63,8 @@ pub record Shows (j : Job) (t : List ℕ) : Type 0 where
   pub textbook : Textbook j
 
 pub record Told (i : List ℕ) : Type 0 where
-  -- the text is never empty
+  -- the text is never empty: a length of 0 means that there was no room
   pub some : 1 ≤ length (listing i)
   pub shows : Accepted ≡ listingCheck i → Shows (jobOf (jobPart i)) (lastTable (jobOf (jobPart i)) (schedulePart i))
+  -- not this schedule alone: after any turns from a fresh start, turns 0 to T - 1 over and over answer all, in 2L + A + 3Q rounds at most
+  pub finished : Accepted ≡ listingCheck i → Finished (jobPart i)

@@ -8,7 +8,7 @@ mod text;
 
 use job::Check;
 
-// What a listing answers: the check of its input, and how many bytes the text has.
+// What a listing answers: its check, and how many bytes the text has that it wrote; 0 where there was no room.
 pub struct Listed {
     pub check: Check,
     pub length: usize,

@@ -4,9 +4,10 @@ ghost use Prim.Native.Nat.{ℕ, _<_, _≤_};
 ghost use lib.ListN.{length, getD, replicate};
 ghost use Rattle.writing.specs.Written.{Put};
 ghost use Rattle.job.specs.Accepted.{WellFormed};
+ghost use Rattle.job.specs.Rows.{_⨾_};
 ghost use Rattle.job.specs.Format.{workers as workersOf, jobOf};
 ghost use Rattle.table.specs.Layout.{used};
-ghost use Rattle.listing.specs.Listing.{mostInput, mostText, listed, listingCheck, listingIf, roomLength, roomBytes};
+ghost use Rattle.listing.specs.Listing.{mostInput, mostText, listed, listingCheck, listingIf, listCheck, roomLength, roomBytes};
 ghost use Rattle.listing.specs.Told.{Told};
 use crate::Listed;
 use crate::input;
@@ -66,9 +67,25 @@ fn list_checked(input: &[u8], check: Check, out: &mut [u8]) -> usize
     }
 }
 
-// Lists the input at the start of `out`; where that has under 196,608 bytes, nothing is written, and the length is 0.
+// The check of a call without room: the input's own refusal, or else 16.
+fn check_without_room(check: Check) -> Check
+    ensures { λ r. ⌜ r ≡ check ⨾ Check.Refused 16 mostText ⌝ }
+{
+    match check {
+        Check::Refused {
+            number: _,
+            place: _,
+        } => check,
+        Check::Accepted => Check::Refused {
+            number: 16,
+            place: MOST_TEXT,
+        },
+    }
+}
+
+// Lists the input at the start of `out`; where that has under MOST_TEXT bytes it is refused, nothing is written, and the length is 0.
 pub fn list(input: &[u8], out: &mut [u8]) -> Listed
-    ensures { λ r. ⌜ r .check ≡ listingCheck (now (input .entry)) ⌝ }
+    ensures { λ r. ⌜ r .check ≡ listCheck (now (input .entry)) (length (now (out .entry))) ⌝ }
     ensures { λ r. ⌜ r .length ≡ roomLength (now (input .entry)) (now (out .entry)) ⌝ }
     ensures { λ r. ⌜ now (out .exit) ≡ roomBytes (now (input .entry)) (now (out .entry)) ⌝ }
     ensures { λ r. ⌜ r .length ≤ length (now (out .exit)) ⌝ }
@@ -76,7 +93,10 @@ pub fn list(input: &[u8], out: &mut [u8]) -> Listed
 {
     let check = input::check_input(input);
     if out.len() < MOST_TEXT {
-        return Listed { check, length: 0 };
+        return Listed {
+            check: check_without_room(check),
+            length: 0,
+        };
     }
     Listed {
         check,
