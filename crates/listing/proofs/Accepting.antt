@@ -26,7 +26,7 @@ use Rattle.job.proofs.Rows.{both, row-no}
 use Rattle.job.proofs.Written.{questions-count}
 use Rattle.table.specs.Layout.{used}
 use Rattle.calls.proofs.Answering.{schedule-low}
-use Rattle.listing.specs.Listing.{jobEnd, jobPart, schedulePart, mostInput, listingCheck, listCheck, mostText, refusalLine, listed, listingIf, listing, roomLength, roomBytes}
+use Rattle.listing.specs.Listing.{jobEnd, jobPart, schedulePart, mostInput, mostWords, listingCheck, listCheck, mostText, refusalLine, listed, listingIf, listing, roomLength, roomBytes}
 
 pub record AcceptedInput (i : List ℕ) : Type 0 where
   pub short : length i ≤ mostInput
@@ -46,7 +46,7 @@ accepted-input i e =
       low = schedule-low _ _ (y .1);
     }
 
-used-most : (s : List ℕ) → WellFormed s → used (jobOf s) ≤ 13384
+used-most : (s : List ℕ) → WellFormed s → used (jobOf s) ≤ mostWords
 unfolding jobOf
 used-most s w = omega (arith, w .sized .claimsMost, w .sized .workersMost, w .sized .questionsMost, questions-count s)
 
@@ -55,13 +55,13 @@ some-zeros zero m h = refl
 some-zeros (suc n) zero h = absurd (omega arith)
 some-zeros (suc n) (suc m) h = ap (λ (l : List ℕ). 0 ∷ l) (some-zeros n m (omega arith))
 
-pub used-fits : (s : List ℕ) → WellFormed s → {words : List ℕ} → words ≡ replicate 13384 0 → {n : ℕ} → n ≡ used (jobOf s) → n ≤ length words
+pub used-fits : (s : List ℕ) → WellFormed s → {words : List ℕ} → words ≡ replicate mostWords 0 → {n : ℕ} → n ≡ used (jobOf s) → n ≤ length words
 used-fits s w {words} e q =
-    let size : length words ≡ 13384 = ap length e ∙ length-replicate {A = ℕ} 13384 0 in
+    let size : length words ≡ mostWords = ap length e ∙ length-replicate {A = ℕ} mostWords 0 in
     omega (arith, used-most s w)
 
-pub used-zeros : (s : List ℕ) → WellFormed s → {words : List ℕ} → words ≡ replicate 13384 0 → {n : ℕ} → n ≡ used (jobOf s) → take n words ≡ replicate (used (jobOf s)) 0
-used-zeros s w e {n} q = ap (take n) e ∙ some-zeros n 13384 (omega (arith, used-most s w)) ∙ ap (λ (k : ℕ). replicate {A = ℕ} k 0) q
+pub used-zeros : (s : List ℕ) → WellFormed s → {words : List ℕ} → words ≡ replicate mostWords 0 → {n : ℕ} → n ≡ used (jobOf s) → take n words ≡ replicate (used (jobOf s)) 0
+used-zeros s w e {n} q = ap (take n) e ∙ some-zeros n mostWords (omega (arith, used-most s w)) ∙ ap (λ (k : ℕ). replicate {A = ℕ} k 0) q
 
 pub rest : (end : ℕ) (i : List ℕ) → take (length i - end) (drop end i) ≡ drop end i
 rest end i = ap (λ (k : ℕ). take k (drop end i)) (sym (length-drop end i)) ∙ take-length (drop end i)

@@ -292,4 +292,4 @@ module _ (i : List ℕ) (e : Accepted ≡ listingCheck i) where
       }
 
 pub told : (i : List ℕ) → Told i
-told i = record { some = listing-some i; shows = shows i; finished = λ e. finished (jobPart i) (accepted-input i e .job) }
+told i = record { some = listing-some i; shows = shows i; finished = finished (jobPart i) }

@@ -1,10 +1,11 @@
 -- The listing (01, 'The listing program'): from the input bytes to the exact bytes of the text.
 --   jobEnd i, jobPart i, schedulePart i   where the job ends in the input i, and its two parts
---   mostInput, mostText   the longest input, and room for every text
+--   mostInput, mostText   the longest input, and room for every text; mostWords   words for the table of every job
 --   listingCheck i     the checks of an input, in the table's order
 --   listCheck i n      the checks of a call that is lent n bytes: those of the input, then row 16
 --   refusalLine        `refused`, number, place
 --   claimLine, questionLine, tallyLine   the lines of the text
+--   valueMark v        the mark of a claim whose value is v
 --   answerLine w c r   the line of a question of worker w on claim c, whose answer reads r
 --   questionLines      the lines of questions, from question k on
 --   lineOf s t k       the line of question k, from the job's bytes s
@@ -51,12 +52,12 @@ jobPart i = take (jobEnd i) i
 abbrev pub schedulePart : List ℕ → List ℕ
 schedulePart i = drop (jobEnd i) i
 
--- "Over 65,536 bytes prints `refused 1 65537`."
 abbrev pub mostInput : ℕ
 mostInput = 65536
 
+-- "Over 65,536 bytes prints `refused 1 65537`."
 unfoldable pub listingCheck : List ℕ → Check
-listingCheck i = row (over (length i) mostInput) 1 65537 ⨾ checkJob (jobPart i) ⨾ checkSchedule (jobPart i) (schedulePart i)
+listingCheck i = row (over (length i) mostInput) 1 (mostInput + 1) ⨾ checkJob (jobPart i) ⨾ checkSchedule (jobPart i) (schedulePart i)
 
 -- "A refusal prints `refused`, number, place."
 abbrev pub refusalLine : ℕ → ℕ → List ℕ
@@ -70,8 +71,12 @@ claimLine t c = decimal c ++ (blank ∷ []) ++ nameOf (readingOf (mark t c)) ++ 
 abbrev pub answerLine : ℕ → ℕ → Reading → List ℕ
 answerLine w c r = decimal w ++ (blank ∷ []) ++ decimal c ++ (blank ∷ []) ++ nameOf r ++ (lineEnd ∷ [])
 
+-- marks 256 to 258 show values 1 to 3
+abbrev pub valueMark : ℕ → ℕ
+valueMark v = 255 + v
+
 abbrev pub questionLine : Job → List ℕ → ℕ → Question → List ℕ
-questionLine j t k q = answerLine (q .worker) (q .claim) (readingOf (255 + getD t (answerWord j k) 0))
+questionLine j t k q = answerLine (q .worker) (q .claim) (readingOf (valueMark (getD t (answerWord j k) 0)))
 
 unfoldable pub questionLines : Job → List ℕ → ℕ → List Question → List ℕ
 questionLines j t k [] = []
@@ -119,6 +124,10 @@ listingIf (Refused number place) i = refusalLine number place
 
 unfoldable pub listing : List ℕ → List ℕ
 listing i = listingIf (listingCheck i) i
+
+-- 8 + 3 · 4,096 + 2 · 32 + 1,024
+abbrev pub mostWords : ℕ
+mostWords = 13384
 
 -- room for the text of every input
 abbrev pub mostText : ℕ

@@ -11,6 +11,7 @@ use lib.ListN.{length}
 use Rattle.writing.specs.Decimal.{decimal}
 use Rattle.job.specs.Job.{Job}
 use Rattle.job.specs.Format.{jobOf}
+use Rattle.job.specs.Checks.{checkJob}
 use Rattle.job.specs.declared.Check.the-variants.{Accepted}
 use Rattle.job.specs.declared.Question.{Question}
 use Rattle.semantics.specs.Model.{Verdict, True, False, Undefined, programOf, verdict}
@@ -66,5 +67,5 @@ pub record Told (i : List ℕ) : Type 0 where
   -- the text is never empty: a length of 0 means that there was no room
   pub some : 1 ≤ length (listing i)
   pub shows : Accepted ≡ listingCheck i → Shows (jobOf (jobPart i)) (lastTable (jobOf (jobPart i)) (schedulePart i))
-  -- not this schedule alone: after any turns from a fresh start, turns 0 to T - 1 over and over answer all, in 2L + A + 3Q rounds at most
-  pub finished : Accepted ≡ listingCheck i → Finished (jobPart i)
+  -- of an accepted job: after any turns from a fresh start, turns 0 to T - 1 over and over answer all, in 2L + A + 3Q rounds at most
+  pub finished : Accepted ≡ checkJob (jobPart i) → Finished (jobPart i)

@@ -9,7 +9,11 @@ ghost use Rattle.listing.specs.Listing.{jobEnd, listingCheck};
 use job::Check;
 use job::bytes;
 
-const MOST_INPUT: usize = 65536;
+// The longest input.
+pub const MOST_INPUT: usize = 65536;
+
+// The length that stands for every longer one.
+pub const TOO_LONG: usize = MOST_INPUT + 1;
 
 // Where the job ends: what the first word says, or the end of the input where it is absent or past that.
 pub fn job_end(input: &[u8]) -> usize
@@ -33,7 +37,7 @@ pub fn check_input(input: &[u8]) -> Check
     if MOST_INPUT < input.len() {
         return Check::Refused {
             number: 1,
-            place: 65537,
+            place: TOO_LONG,
         };
     }
     let end = job_end(input);

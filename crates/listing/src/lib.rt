@@ -1,6 +1,6 @@
 // The listing: from the input bytes to the bytes of the text.
 mod finish;
-mod input;
+pub mod input;
 mod lines;
 pub mod list;
 mod play;

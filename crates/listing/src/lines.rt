@@ -9,7 +9,7 @@ ghost use Rattle.writing.specs.Written.{Put};
 ghost use Rattle.job.specs.Accepted.{WellFormed};
 ghost use Rattle.job.specs.Format.{jobOf, questions};
 ghost use Rattle.job.specs.Job.{mostClaims};
-ghost use Rattle.table.specs.Layout.{used};
+ghost use Rattle.table.specs.Layout.{used, markWord};
 ghost use Rattle.listing.specs.Text.{claimsWord, questionsWord};
 ghost use Rattle.listing.specs.Listing.{refusalLine, claimLine, countText, tallyLine, answerLine, lineOf, questionLines, heading, mostText, textOf};
 use crate::text;
@@ -18,31 +18,34 @@ use table::words;
 use writing::number;
 use writing::put;
 
+// The mark of a claim lies so much above the value that it shows.
+const MARK_ABOVE_VALUE: usize = 255;
+
 pub fn put_refusal(buf: &mut [u8], at: usize, number: u32, place: usize) -> usize
     requires { ⌜ at + 60 ≤ length (now buf) ⌝ }
     ensures { λ r. ⌜ Put (now (buf .entry)) at (refusalLine number place) (now (buf .exit)) r ⌝ }
 {
     let a = text::put_refused(buf, at);
     let b = number::put_number(buf, a, number as u64);
-    let c = put::put_byte(buf, b, 32);
+    let c = put::put_byte(buf, b, b' ');
     let d = number::put_number(buf, c, place as u64);
-    put::put_byte(buf, d, 10)
+    put::put_byte(buf, d, b'\n')
 }
 
 pub fn put_claim(buf: &mut [u8], at: usize, table: &[u32], c: usize) -> usize
-    requires { ⌜ 10 + 3 * c < length (now table) ⌝ }
+    requires { ⌜ markWord c < length (now table) ⌝ }
     requires { ⌜ at + 31 ≤ length (now buf) ⌝ }
     ensures { λ r. ⌜ Put (now (buf .entry)) at (claimLine (now (table .entry)) c) (now (buf .exit)) r ⌝ }
 {
     let d = number::put_number(buf, at, c as u64);
-    let e = put::put_byte(buf, d, 32);
+    let e = put::put_byte(buf, d, b' ');
     let reading = words::reading_of(words::mark_at(table, c));
     let f = text::put_reading(buf, e, reading);
-    put::put_byte(buf, f, 10)
+    put::put_byte(buf, f, b'\n')
 }
 
 pub fn put_claim_lines(buf: &mut [u8], at: usize, table: &[u32], claims: usize) -> usize
-    requires { ⌜ 8 + 3 * claims ≤ length (now table) ⌝ }
+    requires { ⌜ markWord claims ≤ length (now table) ⌝ }
     requires { ⌜ claims ≤ mostClaims ⌝ }
     requires { ⌜ at + 31 * claims ≤ length (now buf) ⌝ }
     ensures { λ r. ⌜ Put (now (buf .entry)) at (flatMap (claimLine (now (table .entry))) (upto claims)) (now (buf .exit)) r × (r ≤ at + 31 * claims) ⌝ }
@@ -61,7 +64,7 @@ fn put_count(buf: &mut [u8], at: usize, n: u64) -> usize
     requires { ⌜ at + 21 ≤ length (now buf) ⌝ }
     ensures { λ r. ⌜ Put (now (buf .entry)) at (countText n) (now (buf .exit)) r × (r ≤ at + 21) ⌝ }
 {
-    let b = put::put_byte(buf, at, 32);
+    let b = put::put_byte(buf, at, b' ');
     number::put_number(buf, b, n)
 }
 
@@ -76,7 +79,7 @@ pub fn put_tally_line(buf: &mut [u8], at: usize, counts: &[u64; 8]) -> usize
         end = put_count(buf, end, counts[i]);
         i += 1;
     }
-    put::put_byte(buf, end, 10)
+    put::put_byte(buf, end, b'\n')
 }
 
 // The line of a question that this worker asked of this claim, and whose answer reads so.
@@ -91,11 +94,11 @@ fn put_answer(
     ensures { λ r. ⌜ Put (now (buf .entry)) at (answerLine worker claim reading) (now (buf .exit)) r ⌝ }
 {
     let b = number::put_number(buf, at, worker as u64);
-    let c = put::put_byte(buf, b, 32);
+    let c = put::put_byte(buf, b, b' ');
     let d = number::put_number(buf, c, claim as u64);
-    let e = put::put_byte(buf, d, 32);
+    let e = put::put_byte(buf, d, b' ');
     let f = text::put_reading(buf, e, reading);
-    put::put_byte(buf, f, 10)
+    put::put_byte(buf, f, b'\n')
 }
 
 // The line of question k.
@@ -111,7 +114,7 @@ fn put_question(buf: &mut [u8], at: usize, job: &[u8], table: &[u32], k: usize) 
         + 3 * format::claim_count(job)
         + 2 * format::worker_count(job);
     let value = words::word_at(table, answers_at + k);
-    let reading = words::reading_of(255 + value);
+    let reading = words::reading_of(MARK_ABOVE_VALUE + value);
     put_answer(buf, at, q.worker, q.claim, reading)
 }
 
@@ -138,7 +141,7 @@ fn put_claim_heading(buf: &mut [u8], at: usize, claims: usize) -> usize
 {
     let a = text::put_claims(buf, at);
     let b = number::put_number(buf, a, claims as u64);
-    put::put_byte(buf, b, 10)
+    put::put_byte(buf, b, b'\n')
 }
 
 // The heading of the question lines.
@@ -148,7 +151,7 @@ fn put_question_heading(buf: &mut [u8], at: usize, questions: usize) -> usize
 {
     let a = text::put_questions(buf, at);
     let b = number::put_number(buf, a, questions as u64);
-    put::put_byte(buf, b, 10)
+    put::put_byte(buf, b, b'\n')
 }
 
 // The whole text of an accepted job, from its table and tally at the end.

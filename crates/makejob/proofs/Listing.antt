@@ -68,7 +68,7 @@ module _ (j : Job) (v : Valid j) (ok : Accepted ≡ checkJob (encode j)) (ws : L
 
   pub accepted : Accepted ≡ listingCheck (encode j ++ ws)
   unfolding listingCheck
-  accepted = pass _ 1 65537 _ (over-no _ _ (omega (arith, input-length, fits))) (rw (job-is, schedule-is) (join _ _ ok schedule-passes))
+  accepted = pass _ _ _ _ (over-no _ _ (omega (arith, input-length, fits))) (rw (job-is, schedule-is) (join _ _ ok schedule-passes))
 
   pub listing-is : listing (encode j ++ ws) ≡ listed j ws
   unfolding listing listingIf
