@@ -1,9 +1,13 @@
 // The listing program: reads a job with its schedule from standard input, writes the listing to standard output and, where the
-// input is refused, one line on standard error that says in words what is wrong and where.
+// input is refused, one line on standard error that says in words what is wrong and where. An input that can't be read is not listed.
+mod input;
+
 use job::Check;
 use libc::STDERR_FILENO;
-use libc::STDIN_FILENO;
 use libc::STDOUT_FILENO;
+use listing::input::MOST_INPUT;
+use listing::input::TOO_LONG;
+use listing::list::MOST_TEXT;
 
 fn say(words: &[u8]) {
     io::write_all(STDERR_FILENO, words);
@@ -11,14 +15,14 @@ fn say(words: &[u8]) {
 
 // What is wrong with the length.
 fn say_length(length: usize) {
-    if 65536 < length {
+    if MOST_INPUT < length {
         say(b"the input has over 65,536 bytes; bytes read: ");
         return;
     }
     say(b"the job has under 36 or over 61,476 bytes; its length: ");
 }
 
-// What check `number` found wrong (docs/SPECIFICATION.md, 'Checks by place'), up to the place.
+// What check `number` found wrong (docs/SPECIFICATION.md, 'Checks by place'), up to the place. 16 can't come, since there is room.
 fn say_fault(number: u32, place: usize) {
     match number {
         1 => say_length(place),
@@ -47,16 +51,32 @@ fn say_refusal(number: u32, place: usize) {
     say(b"\n");
 }
 
-// The input may have 65,536 bytes; one more is read, so that a longer one shows.
-fn main() {
-    let mut input = [0u8; 65537];
-    let mut text = [0u8; 196608];
-    let n = io::read_full(STDIN_FILENO, &mut input);
-    let listed = listing::list::list(&input[..n], &mut text);
+fn write_text(text: &[u8]) {
+    if io::write_all(STDOUT_FILENO, text) {
+        return;
+    }
+    say(b"verdicts: the listing can't be written to standard output; is the disk full?\n");
+}
+
+fn list(input: &[u8], text: &mut [u8]) {
+    let listed = listing::list::list(input, text);
     let length = listed.length;
-    io::write_all(STDOUT_FILENO, &text[..length]);
     let check = listed.check;
+    write_text(&text[..length]);
     if let Check::Refused { number, place } = check {
         say_refusal(number, place);
     }
+}
+
+// One byte more is read than an input may have, so that a longer one shows.
+fn main() {
+    let mut input = [0u8; TOO_LONG];
+    let mut text = [0u8; MOST_TEXT];
+    let read = input::read_input(&mut input);
+    let length = read.length;
+    if !read.sound {
+        say(b"verdicts: standard input can't be read; give a job, as in `verdicts < my.job`\n");
+        return;
+    }
+    list(&input[..length], &mut text);
 }
