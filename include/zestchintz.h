@@ -1,13 +1,20 @@
 /*
  * zestchintz.h: verdicts for a job of claims and rules.
  *
- * Link with libzestchintz.a (`rt staticlib zestchintz` writes it to
- * target/staticlib/).  It is for x86-64, needs no other library, keeps no
- * state between calls and allocates nothing: any number of threads may call
- * it at once, each with an output of its own.
- *
  * A job is a string of bytes whose layout README.md gives.  Its rules say
  * when a claim holds; every claim has one verdict: true, false or undefined.
+ *
+ * Four things to know first:
+ *
+ *   - Undefined is not false.  (Neither is `unopened`, a word of the listing
+ *     program: nobody asked for that claim.  No call here gives it.)
+ *   - Compare a verdict byte with ZESTCHINTZ_TRUE, ZESTCHINTZ_FALSE or
+ *     ZESTCHINTZ_UNDEFINED.  `if (verdicts[c])` holds for false too, which is 2.
+ *   - Look at the code that a call answers first.  A refused call writes
+ *     nothing, so `verdicts` is then what it was before.
+ *   - The job must not change during a call, and nobody else may read or write
+ *     `verdicts` until it returns.  Beyond that any number of threads may call
+ *     at once, on one job too, each with an output of its own.
  *
  * Both functions answer with one code:
  *
@@ -15,13 +22,18 @@
  *     2^63 + length         refused, number 1: the job's length is the fault
  *     number * 2^32 + place refused, any other number
  *
- * The number says which check failed, the place where: mostly the byte of the
- * job at which the field at fault begins.  README.md lists the numbers and what
- * to do about each.  Take a code apart with the three functions below.
+ * The number says which check refuses, the place where: mostly the byte of the
+ * job at which the word, rule, literal or question at fault begins.  README.md
+ * lists the checks and what to do about each.  Take a code apart with the three
+ * functions at the end.
  *
  * Pointers: each must be good for as many bytes as its length says, and
  * `verdicts` must not overlap `job`.  Where a length is 0 the pointer may be
  * anything, NULL too.  Nothing needs to be aligned.
+ *
+ * Link with libzestchintz.a, which `make library` writes to target/staticlib/.
+ * It is for x86-64, keeps no state between calls, allocates nothing, and needs
+ * nothing of other libraries but C's memset and its like.
  */
 #ifndef ZESTCHINTZ_H
 #define ZESTCHINTZ_H
@@ -44,7 +56,7 @@ extern "C" {
  */
 #define ZESTCHINTZ_MISSING 65535
 
-/* The bytes that stand for the verdicts. */
+/* The bytes that stand for the verdicts.  None is 0. */
 #define ZESTCHINTZ_TRUE 1
 #define ZESTCHINTZ_FALSE 2
 #define ZESTCHINTZ_UNDEFINED 3
@@ -64,8 +76,8 @@ uint64_t zestchintz_check(const uint8_t *job, size_t job_length);
  * `verdicts` has fewer bytes than there are claims; the place is then the
  * number of bytes needed.  A refused call writes nothing.
  *
- * Nothing is allocated.  A call takes up to 128 KB of stack, which a thread with
- * a small one must have.
+ * A call takes up to 128 KB of stack: a thread with a small stack must have that
+ * much left.
  */
 uint64_t zestchintz_evaluate(const uint8_t *job, size_t job_length,
                              uint8_t *verdicts, size_t verdicts_length);

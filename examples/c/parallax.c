@@ -19,16 +19,16 @@ enum { STARS = 4, WORKERS = 2, NOT = 32768, HEADER = 36 };
 enum { LEAST = 10, UNKNOWN = -1 };
 static const int parallax[STARS] = {23, 2, UNKNOWN, UNKNOWN};
 
-/* The three parts of the job as 16-bit fields, and how many are filled. */
+/* The three parts of the job as half-words of 16 bits, and how many are filled. */
 struct part {
-    unsigned fields[64];
+    unsigned halves[64];
     unsigned count;
 };
 static struct part rules, literals, questions;
 
-static void add(struct part *part, unsigned field)
+static void add(struct part *part, unsigned half)
 {
-    part->fields[part->count++] = field;
+    part->halves[part->count++] = half;
 }
 
 /* A rule with no literals so far; heads must never fall. */
@@ -41,7 +41,7 @@ static void add_rule(unsigned head)
 /* One literal more for the last rule. */
 static void add_literal(unsigned literal)
 {
-    rules.fields[rules.count - 1]++;
+    rules.halves[rules.count - 1]++;
     add(&literals, literal);
 }
 
@@ -125,7 +125,7 @@ static void write_header(void)
 static void write_part(const struct part *part)
 {
     for (unsigned i = 0; i < part->count; i++)
-        write_half(part->fields[i]);
+        write_half(part->halves[i]);
 }
 
 int main(void)
