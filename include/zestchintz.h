@@ -9,7 +9,7 @@
  *   - Undefined is not false.  (Neither is `unopened`, a word of the listing
  *     program: nobody asked for that claim.  No call here gives it.)
  *   - Compare a verdict byte with ZESTCHINTZ_TRUE, ZESTCHINTZ_FALSE or
- *     ZESTCHINTZ_UNDEFINED.  `if (verdicts[c])` holds for false too, which is 2.
+ *     ZESTCHINTZ_UNDEFINED.  `if (verdicts[c])` holds for false too: it is 2.
  *   - Look at the code that a call answers first.  A refused call writes
  *     nothing, so `verdicts` is then what it was before.
  *   - The job must not change during a call, and nobody else may read or write
@@ -76,8 +76,8 @@ uint64_t zestchintz_check(const uint8_t *job, size_t job_length);
  * `verdicts` has fewer bytes than there are claims; the place is then the
  * number of bytes needed.  A refused call writes nothing.
  *
- * A call takes up to 128 KB of stack: a thread with a small stack must have that
- * much left.
+ * A call takes up to 128 KB of stack: a thread with a small stack must have
+ * that much left.
  */
 uint64_t zestchintz_evaluate(const uint8_t *job, size_t job_length,
                              uint8_t *verdicts, size_t verdicts_length);

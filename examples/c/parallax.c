@@ -19,7 +19,7 @@ enum { STARS = 4, WORKERS = 2, NOT = 32768, HEADER = 36 };
 enum { LEAST = 10, UNKNOWN = -1 };
 static const int parallax[STARS] = {23, 2, UNKNOWN, UNKNOWN};
 
-/* The three parts of the job as half-words of 16 bits, and how many are filled. */
+/* The three parts of the job as half-words, and how many are filled. */
 struct part {
     unsigned halves[64];
     unsigned count;
