@@ -14,7 +14,8 @@
  *     nothing, so `verdicts` is then what it was before.
  *   - The job must not change during a call, and nobody else may read or write
  *     `verdicts` until it returns.  Beyond that any number of threads may call
- *     at once, on one job too, each with an output of its own.
+ *     at once, on one job too, each with an output of its own.  (Calls on a
+ *     shared table, none of which is here, are made one at a time.)
  *
  * Both functions answer with one code:
  *
