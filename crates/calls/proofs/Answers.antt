@@ -56,13 +56,13 @@ module _ {j : Job} (J : JobOk j) {t : List ℕ} (M : Made j t) where
   pub shown-value : (c : ℕ) → c < j .claims → readingValue (readingOf (W.mark t c)) ≡ W.valueOf (W.mark t c)
   shown-value c h = reading-value (W.mark t c) (mark-most j t c (omega (arith, J .few)) (M .range .claim c h))
 
-  pub complete-mark : (c : ℕ) → c < j .claims → Complete t c → 256 ≤ W.mark t c
+  pub complete-mark : (c : ℕ) → c < j .claims → Complete t c → W.trueMark ≤ W.mark t c
   complete-mark c h d = omega (arith, shown-value c h)
 
-  pub mark-complete : (c : ℕ) → c < j .claims → 256 ≤ W.mark t c → Complete t c
+  pub mark-complete : (c : ℕ) → c < j .claims → W.trueMark ≤ W.mark t c → Complete t c
   mark-complete c h d = omega (arith, shown-value c h)
 
-  pub value-of : (c : ℕ) → c < j .claims → 256 ≤ W.mark t c → readingValue (readingOf (W.mark t c)) ≡ byteOf (verdictIn j c)
+  pub value-of : (c : ℕ) → c < j .claims → W.trueMark ≤ W.mark t c → readingValue (readingOf (W.mark t c)) ≡ byteOf (verdictIn j c)
   value-of c h d = omega (arith, shown-value c h, M .verdicts .marks c h d)
 
 -- what u's turn is to w's count

@@ -13,7 +13,7 @@ use Rattle.job.specs.declared.Check.the-variants.{Accepted}
 use Rattle.job.proofs.Accepted.{well-formed}
 use Rattle.semantics.specs.Model.{knownOf}
 use Rattle.semantics.specs.Missing.{Extension}
-use Rattle.model.proofs.Known.{known-past}
+use Rattle.semantics.proofs.Known.{known-past}
 use Rattle.semantics.proofs.Missing.{missing-of}
 use Rattle.semantics.proofs.Textbook.{textbook-of}
 use Rattle.table.specs.Layout.{mark, valueOf, markOf, values}

@@ -60,10 +60,10 @@ module _ (j : Job) (v : Valid j) (t : List ℕ) (M : Made j t) where
   failed-false : (l : Literal) → claimOf l < j .claims → T (failed t l) → literalVerdict (programOf j) l ≡ False
   unfolding failed
   failed-false (Plain c) h f =
-      let e = eqb→eq (W.mark t c) 257 f in
+      let e = eqb→eq (W.mark t c) W.falseMark f in
       by-byte (verdictIn j c) (omega (arith, M .verdicts .marks c h (omega arith)))
   failed-false (Negated c) h f =
-      let e = eqb→eq (W.mark t c) 256 f in
+      let e = eqb→eq (W.mark t c) W.trueMark f in
       by-one (verdictIn j c) (omega (arith, M .verdicts .marks c h (omega arith)))
 
   -- and a complete literal that is false in the model fails
@@ -75,9 +75,9 @@ module _ (j : Job) (v : Valid j) (t : List ℕ) (M : Made j t) where
   pub false-failed : (l : Literal) → claimOf l < j .claims → Complete t (claimOf l) → literalVerdict (programOf j) l ≡ False → T (failed t l)
   unfolding failed
   false-failed (Plain c) h d e =
-      is-eq (W.mark t c) 257 (omega (arith, ap byteOf e, M .verdicts .marks c h (complete-mark J M c h d)))
+      is-eq (W.mark t c) W.falseMark (omega (arith, ap byteOf e, M .verdicts .marks c h (complete-mark J M c h d)))
   false-failed (Negated c) h d e =
-      is-eq (W.mark t c) 256 (omega (arith, by-opposite (verdictIn j c) e, M .verdicts .marks c h (complete-mark J M c h d)))
+      is-eq (W.mark t c) W.trueMark (omega (arith, by-opposite (verdictIn j c) e, M .verdicts .marks c h (complete-mark J M c h d)))
 
   -- literal k of rule r, which stands at p among its head's, and one of the rule before it that fails
   module _ (r : Rule) (p : RuleAt (r .head) (j .rules) r) (before : List Literal) (l : Literal) (rest : List Literal) (e : r .body ≡ before ++ (l ∷ rest)) where

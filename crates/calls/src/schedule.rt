@@ -4,22 +4,15 @@ ghost use mathlib.Core.Path.{_≡_};
 ghost use Prim.Native.Nat.{ℕ, _<_};
 ghost use lib.ListN.{length, getD};
 ghost use Rattle.job.specs.Accepted.{WellFormed};
-ghost use Rattle.job.specs.Bytes.{Number};
 ghost use Rattle.job.specs.Format.{workers as workersOf, jobOf};
 ghost use Rattle.turn.specs.Turn.{runTable, runKinds};
 ghost use Rattle.calls.specs.Calls.{checkSchedule, tally as tallyOf};
 ghost use Rattle.turn.specs.Ready.{Ready};
 use crate::tally;
+use base::wide;
 use job::Check;
 use job::ClaimIndex;
 use job::format;
-
-// The worker that a byte of a schedule names.
-pub fn wide(b: u8) -> usize
-    ensures { λ r. ⌜ Number r b 256 ⌝ }
-{
-    b as usize
-}
 
 // The turns that the schedule names, and their tally.
 pub fn run_turns(job: &[u8], index: &ClaimIndex, table: &mut [u32], schedule: &[u8]) -> [u64; 8]
@@ -30,7 +23,7 @@ pub fn run_turns(job: &[u8], index: &ClaimIndex, table: &mut [u32], schedule: &[
 {
     let mut counts = tally::no_turns();
     for i in 0..schedule.len() {
-        let kind = turn::take_turn(job, index, table, wide(schedule[i]));
+        let kind = turn::take_turn(job, index, table, wide::byte(schedule[i]));
         let next = tally::counted(counts, kind);
         counts = next;
     }
@@ -44,7 +37,7 @@ pub fn check_schedule(job: &[u8], schedule: &[u8]) -> Check
 {
     let workers = format::worker_count(job);
     for i in 0..schedule.len() {
-        if workers <= wide(schedule[i]) {
+        if workers <= wide::byte(schedule[i]) {
             return Check::Refused {
                 number: 11,
                 place: i,

@@ -1,7 +1,7 @@
 // The index of claims, and the cursor over one claim's literals. The contracts cite specs/Claims.
 ghost use mathlib.Core.Path.{_≡_};
 ghost use mathlib.Core.Bool.{_&&_};
-ghost use Prim.Native.Nat.{_+_, _^_, _<_, _≤_};
+ghost use Prim.Native.Nat.{_+_, _-_, _^_, _<_, _≤_};
 ghost use lib.Bits.{bitOr};
 ghost use lib.Dec.{leb};
 ghost use lib.ListN.{length, getD, replicate};
@@ -101,13 +101,21 @@ pub fn rule_end(index: &ClaimIndex, at: usize) -> usize
 impl Cursor {
     // The cursor over a claim's literals that has passed some of them.
     pub fn over(index: &ClaimIndex, claim: usize, passed: usize) -> Cursor
-        requires { ⌜ (claim < mostClaims) × (passed ≤ mostLiterals) ⌝ }
+        requires { ⌜ (claim < mostClaims) × (passed < 4294967296) ⌝ }
         ensures { λ r. ⌜ r ≡ record { at = getD (now (index .entry)) claim 0 + passed; end = getD (now (index .entry)) (claim + 1) 0 } ⌝ }
     {
         Cursor {
             at: wide::half(index[claim]) + passed,
             end: wide::half(index[claim + 1]),
         }
+    }
+
+    // How many of the claim's literals it has passed.
+    pub fn passed(self, index: &ClaimIndex, claim: usize) -> usize
+        requires { ⌜ (claim < mostClaims) × (getD (now index) claim 0 ≤ self .at) ⌝ }
+        ensures { λ r. ⌜ r ≡ self .at - getD (now (index .entry)) claim 0 ⌝ }
+    {
+        self.at - wide::half(index[claim])
     }
 
     // Whether no literal is left.

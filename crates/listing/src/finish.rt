@@ -4,7 +4,7 @@ ghost use mathlib.Core.Path.{_≡_};
 ghost use Prim.Native.Nat.{ℕ, _<_};
 ghost use lib.ListN.{getD};
 ghost use Rattle.job.specs.Accepted.{WellFormed};
-ghost use Rattle.job.specs.Bytes.{Number};
+ghost use Rattle.base.specs.Number.{Number};
 ghost use Rattle.job.specs.Format.{workers as workersOf, jobOf};
 ghost use Rattle.table.specs.Questions.{Counted};
 ghost use Rattle.table.specs.Ranges.{InRange};

@@ -28,7 +28,7 @@ module _ (j : Job) (J : JobOk j) (t : List ℕ) (R : InRange j t) (w : ℕ) (sma
 
   -- w awaits a claim
   module _ (n : a ≡ 0 → ⊥) where
-    pub wakes-outcome : 256 ≤ W.mark t (a - 1) → Outcome j t w (record { kind = Woke; table = set t (W.awaitedWord j w) 0 })
+    pub wakes-outcome : W.trueMark ≤ W.mark t (a - 1) → Outcome j t w (record { kind = Woke; table = set t (W.awaitedWord j w) 0 })
     wakes-outcome d =
         acts (λ e. omega (arith, ap kindNumber e))
         (S.woke
@@ -44,7 +44,7 @@ module _ (j : Job) (J : JobOk j) (t : List ℕ) (R : InRange j t) (w : ℕ) (sma
           literals = Q.stays J (λ c l. same (X.await-mark j t w 0 c l)) (X.await-cursor j t w 0);
         }))
 
-    pub sleeps-outcome : W.mark t (a - 1) < 256 → Outcome j t w (record { kind = Idle; table = t })
+    pub sleeps-outcome : W.mark t (a - 1) < W.trueMark → Outcome j t w (record { kind = Idle; table = t })
     sleeps-outcome d = idle refl refl go
       where
         busy : view j t .awaited w ≡ 0 → ⊥
@@ -53,7 +53,7 @@ module _ (j : Job) (J : JobOk j) (t : List ℕ) (R : InRange j t) (w : ℕ) (sma
         go : S.Ready (view j t) w → ⊥
         go (S.wakes {d = c} b o) =
             let z : a - 1 ≡ c = omega (arith, b, low-in a small) in
-            let m : W.mark t c < 256 = rw z at d in
+            let m : W.mark t c < W.trueMark = rw z at d in
             omega (arith, of-done j t o .1)
         go (S.answers k o) = busy (k .free)
         go (S.opens k o) = busy (k .free)
@@ -94,7 +94,7 @@ module _ (j : Job) (J : JobOk j) (t : List ℕ) (R : InRange j t) (w : ℕ) (sma
           asks = low-in _ small ∙ askAt-in j w (W.answered j t w) (at .more);
         }
 
-    pub answers-outcome : 256 ≤ W.mark t q → Outcome j t w (record { kind = Answered; table = stored j t w })
+    pub answers-outcome : W.trueMark ≤ W.mark t q → Outcome j t w (record { kind = Answered; table = stored j t w })
     answers-outcome d =
         acts (λ e. omega (arith, ap kindNumber e))
         (S.answered {q = q}
@@ -130,7 +130,7 @@ module _ (j : Job) (J : JobOk j) (t : List ℕ) (R : InRange j t) (w : ℕ) (sma
               (λ c m. by-cases (ℕ-discrete c q) (λ e. rw e (X.open-cursor t w q l ∙ sym (R .claim q q-low .unread z))) (X.open-cursors t w q c));
         }))
 
-    pub waits-outcome : (W.mark t q ≡ 0 → ⊥) → W.mark t q < 256 → Outcome j t w (record { kind = Waits; table = set t (W.awaitedWord j w) (q + 1) })
+    pub waits-outcome : (W.mark t q ≡ 0 → ⊥) → W.mark t q < W.trueMark → Outcome j t w (record { kind = Waits; table = set t (W.awaitedWord j w) (q + 1) })
     waits-outcome z m =
         let v = low-in (W.mark t q) q-low in
         acts (λ e. omega (arith, ap kindNumber e))

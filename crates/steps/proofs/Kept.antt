@@ -28,7 +28,7 @@ module _ (j : Job) (J : JobOk j) (t : List ℕ) (R : InRange j t) where
   steady-keeps t′ k G =
       record {
         marks = λ c h d.
-            by-cases (decLe 256 (W.mark t c)) (λ l. k .kept c h l ∙ G .marks c h l) (λ l. k .new c h (omega arith) d);
+            by-cases (decLe W.trueMark (W.mark t c)) (λ l. k .kept c h l ∙ G .marks c h l) (λ l. k .new c h (omega arith) d);
         met = λ w i h l.
             let m : i < W.answered j t w = omega (arith, k .counts w) in
             let d = G .met w i h m in
@@ -50,7 +50,7 @@ module _ (j : Job) (J : JobOk j) (t : List ℕ) (R : InRange j t) where
         by-cases (ℕ-discrete i (W.answered j t w)) (λ q. inr (e, q)) (λ n. inl (omega arith)))
         (λ n. inl (omega (arith, X.stored-word j t w small (W.answeredWord j u) (omega arith) (λ e. n (omega arith)))))
 
-    stored-verdicts : AtQuestion j t w → 256 ≤ W.mark t (asked j t w) → Verdicts j (stored j t w)
+    stored-verdicts : AtQuestion j t w → W.trueMark ≤ W.mark t (asked j t w) → Verdicts j (stored j t w)
     unfolding questionClaim
     stored-verdicts a d =
         record {
@@ -69,7 +69,7 @@ module _ (j : Job) (J : JobOk j) (t : List ℕ) (R : InRange j t) where
         mark-same : (c : ℕ) → c < j .claims → W.mark (stored j t w) c ≡ W.mark t c
         mark-same c h = X.stored-word j t w small (W.markWord c) (omega arith) (λ e. omega arith)
 
-        met : (u i : ℕ) → u < j .workers → (i < W.answered j t u) ⊎ ((u ≡ w) × (i ≡ W.answered j t w)) → 256 ≤ W.mark (stored j t w) (questionClaim j u i)
+        met : (u i : ℕ) → u < j .workers → (i < W.answered j t u) ⊎ ((u ≡ w) × (i ≡ W.answered j t w)) → W.trueMark ≤ W.mark (stored j t w) (questionClaim j u i)
         met u i h (inl l) =
             omega (arith, G .met u i h l, mark-same (questionClaim j u i) (J .question u i (omega (arith, R .answers u h))))
         met u i h (inr e) =
@@ -114,7 +114,7 @@ module _ (j : Job) (J : JobOk j) (t : List ℕ) (R : InRange j t) where
     -- what a turn is to verdicts: steady, or an answer
     data Effect (t′ : List ℕ) : Type 0 where
       steady : Steady j t t′ → Effect t′
-      answered : AtQuestion j t w → 256 ≤ W.mark t (asked j t w) → t′ ≡ stored j t w → Effect t′
+      answered : AtQuestion j t w → W.trueMark ≤ W.mark t (asked j t w) → t′ ≡ stored j t w → Effect t′
 
     still : Effect t
     still = steady (record { kept = λ c h d. refl; new = λ c h m d. absurd (omega arith); counts = λ w. refl; answers = λ k. refl })
@@ -159,7 +159,7 @@ module _ (j : Job) (J : JobOk j) (t : List ℕ) (R : InRange j t) where
         go (answered a d e) = subst (Verdicts j) (sym e) (stored-verdicts a d)
 
     -- a complete claim stays as it is
-    pub complete-stays : (c : ℕ) → c < j .claims → 256 ≤ W.mark t c → W.mark (turn j t w .table) c ≡ W.mark t c
+    pub complete-stays : (c : ℕ) → c < j .claims → W.trueMark ≤ W.mark t c → W.mark (turn j t w .table) c ≡ W.mark t c
     complete-stays c h d = go (turn j t w .table) (effect (turn j t w) (turn-case j t w))
       where
         go : (t′ : List ℕ) → Effect t′ → W.mark t′ c ≡ W.mark t c

@@ -18,7 +18,7 @@ use Rattle.steps.proofs.View.{low-in, low-pos, view}
 
 module _ (j : Job) (t : List ℕ) (R : InRange j t) where
   -- the mark of a claim that isn't complete is its owner + 1
-  pub owner-low : (c : ℕ) → c < j .claims → W.mark t c < 256 → W.mark t c ≤ j .workers
+  pub owner-low : (c : ℕ) → c < j .claims → W.mark t c < W.trueMark → W.mark t c ≤ j .workers
   owner-low c h m = ⊎-elim (λ a. a) (λ a. absurd (omega (arith, a .0))) (R .claim c h .markIn)
 
   module _ (w : ℕ) where
@@ -33,15 +33,15 @@ module _ (j : Job) (t : List ℕ) (R : InRange j t) where
         k : ℕ
         k = W.mark t (a - 1)
 
-        go : ((u : ℕ) → u < j .workers → T (meets n j t w u) → Within (view j t) w n u) → T (eqb v w) ⊎ T (pick (eqb a 0) false (pick (eqb k 0) false (pick (leb 256 k) false (meets n j t w (k - 1))))) → Within (view j t) w (suc n) v
+        go : ((u : ℕ) → u < j .workers → T (meets n j t w u) → Within (view j t) w n u) → T (eqb v w) ⊎ T (pick (eqb a 0) false (pick (eqb k 0) false (pick (leb W.trueMark k) false (meets n j t w (k - 1))))) → Within (view j t) w (suc n) v
         go ih (inl e) = rw (eqb→eq v w e) there
         go ih (inr b) =
             let p = unless-parts (eqb a 0) _ b in
             let q = unless-parts (eqb k 0) _ (p .1) in
-            let r = unless-parts (leb 256 k) _ (q .1) in
+            let r = unless-parts (leb W.trueMark k) _ (q .1) in
             let x : ¬ (a ≡ 0) = not-eq a 0 (p .0) in
             let y : ¬ (k ≡ 0) = not-eq k 0 (q .0) in
-            let z : k < 256 = nleb→lt 256 k (r .0) in
+            let z : k < W.trueMark = nleb→lt W.trueMark k (r .0) in
             let c : a - 1 < j .claims = omega (arith, R .awaits v h) in
             let e = low-in k c in
             let u : k ≤ j .workers = owner-low (a - 1) c z in
@@ -68,7 +68,7 @@ module _ (j : Job) (t : List ℕ) (R : InRange j t) where
         k : ℕ
         k = W.mark t (a - 1)
 
-        go : T (meets n j t w u) → T (pick (eqb a 0) false (pick (eqb k 0) false (pick (leb 256 k) false (meets n j t w (k - 1)))))
+        go : T (meets n j t w u) → T (pick (eqb a 0) false (pick (eqb k 0) false (pick (leb W.trueMark k) false (meets n j t w (k - 1)))))
         go m =
             let e = low-pos {n = j .workers} {i = v} {v = a} (omega (arith, x .waits .awaits)) in
             let z : a - 1 ≡ d = omega (arith, e .1, x .waits .awaits) in
@@ -78,4 +78,4 @@ module _ (j : Job) (t : List ℕ) (R : InRange j t) where
             let q : k - 1 ≡ u = omega arith in
             unless-of (eqb a 0) _ (eq-not a 0 (λ b. omega (arith, e .1, x .waits .awaits)))
             (unless-of (eqb k 0) _ (eq-not k 0 (λ b. omega arith))
-            (unless-of (leb 256 k) _ (not-T (leb 256 k) (λ b. absurd (omega (arith, leb→le 256 k b, f .1, x .owner .still)))) (rw q m)))
+            (unless-of (leb W.trueMark k) _ (not-T (leb W.trueMark k) (λ b. absurd (omega (arith, leb→le W.trueMark k b, f .1, x .owner .still)))) (rw q m)))

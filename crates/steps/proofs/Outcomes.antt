@@ -25,10 +25,10 @@ pub data Outcome (j : Job) (t : List ℕ) (w : ℕ) (r : Turned) : Type 0 where
   acts : (r .kind ≡ Idle → ⊥) → Step (j .workers) w (view j t) (view j (r .table)) → Outcome j t w r
 
 module _ (j : Job) (t : List ℕ) where
-  pub done-of : {c : ℕ} → c < j .claims → 256 ≤ W.mark t c → Done (view j t) c
+  pub done-of : {c : ℕ} → c < j .claims → W.trueMark ≤ W.mark t c → Done (view j t) c
   done-of {c} h d = record { over = omega (arith, low-in (W.mark t c) h) }
 
-  pub of-done : {c : ℕ} → Done (view j t) c → (c < j .claims) × (256 ≤ W.mark t c)
+  pub of-done : {c : ℕ} → Done (view j t) c → (c < j .claims) × (W.trueMark ≤ W.mark t c)
   of-done {c} d =
       let p = low-pos {n = j .claims} {i = c} {v = W.mark t c} (omega (arith, d .over)) in
       (p .0, omega (arith, p .1, d .over))

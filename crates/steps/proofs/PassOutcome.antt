@@ -91,7 +91,7 @@ module _ (j : Job) (J : JobOk j) (t : List ℕ) (R : InRange j t) (w : ℕ) (sma
               (λ k g h. behind-rest g (omega (arith, end-up)) back);
         }))
 
-  pub passes-outcome : (256 ≤ W.mark t b) ⊎ (W.mark t b ≡ w + 1) → Clear j t c → Outcome j t w (record { kind = Passed; table = moved t c })
+  pub passes-outcome : (W.trueMark ≤ W.mark t b) ⊎ (W.mark t b ≡ w + 1) → Clear j t c → Outcome j t w (record { kind = Passed; table = moved t c })
   passes-outcome p free =
       acts (λ e. omega (arith, ap kindNumber e))
       (S.passed {b = b}
@@ -103,7 +103,7 @@ module _ (j : Job) (J : JobOk j) (t : List ℕ) (R : InRange j t) (w : ℕ) (sma
         literals = moved-passes free (moved t c) moved-alike (λ x l. refl);
       }))
     where
-      to : (256 ≤ W.mark t b) ⊎ (W.mark t b ≡ w + 1) → S.PassedTo (view j t) w b
+      to : (W.trueMark ≤ W.mark t b) ⊎ (W.mark t b ≡ w + 1) → S.PassedTo (view j t) w b
       to (inl d) = S.complete (done-of j t b-is-low d)
       to (inr o) = S.PassedTo.own (own-of j J t small b-is-low o)
 

@@ -106,7 +106,7 @@ module _ (j : Job) (J : JobOk j) where
           )
 
   -- a complete claim has passed all its literals, so each leads, and its claim is complete, or stands behind
-  pub else-behind : (t : List ℕ) → Made j t → (c : ℕ) → c < j .claims → 256 ≤ W.mark t c → (k : ℕ) → k < length (lits j c) → (256 ≤ W.mark t (getD (lits j c) k 0) → ⊥) → Behind j t c k
+  pub else-behind : (t : List ℕ) → Made j t → (c : ℕ) → c < j .claims → W.trueMark ≤ W.mark t c → (k : ℕ) → k < length (lits j c) → (W.trueMark ≤ W.mark t (getD (lits j c) k 0) → ⊥) → Behind j t c k
   else-behind t M c h d k l n = go (behind? j t c k)
     where
       over : Done (view j t) c
@@ -150,9 +150,9 @@ module _ (j : Job) (J : JobOk j) where
     only-led c h d = known .named (omega (arith, low-in (W.mark u c) h))
 
     -- when all is answered nobody owns anything
-    pub none-open : ((w : ℕ) → w < j .workers → W.answered j u w ≡ length (askedBy j w)) → (c : ℕ) → c < j .claims → 0 < W.mark u c → 256 ≤ W.mark u c
+    pub none-open : ((w : ℕ) → w < j .workers → W.answered j u w ≡ length (askedBy j w)) → (c : ℕ) → c < j .claims → 0 < W.mark u c → W.trueMark ≤ W.mark u c
     none-open z c h d =
-        by-cases (decLt (W.mark u c) 256)
+        by-cases (decLt (W.mark u c) W.trueMark)
         (λ l.
         let e = low-in (W.mark u c) h in
         let o = owner {s = view j u} {x = c} (omega arith) (omega arith) in

@@ -10,7 +10,7 @@ use lib.ListN.{length, getD, set}
 use Rattle.base.specs.Lists.{isIn}
 use Rattle.base.proofs.Choose.{t?}
 use Rattle.base.proofs.Lists.{In}
-use Rattle.job.specs.Job.{Job}
+use Rattle.job.specs.Job.{Job, mostWorkers}
 use Rattle.table.specs.Layout as W
 use Rattle.turn.specs.Turn.{openClaim, markAll}
 use Rattle.turn.proofs.Cases.{moved}
@@ -18,8 +18,8 @@ use Rattle.turn.proofs.Words as X
 use Rattle.steps.proofs.Verdicts.{verdictIn}
 
 pub record Steady (j : Job) (t t′ : List ℕ) : Type 0 where
-  pub kept : (c : ℕ) → c < j .claims → 256 ≤ W.mark t c → W.mark t′ c ≡ W.mark t c
-  pub new : (c : ℕ) → c < j .claims → W.mark t c < 256 → 256 ≤ W.mark t′ c → W.mark t′ c ≡ W.markOf (verdictIn j c)
+  pub kept : (c : ℕ) → c < j .claims → W.trueMark ≤ W.mark t c → W.mark t′ c ≡ W.mark t c
+  pub new : (c : ℕ) → c < j .claims → W.mark t c < W.trueMark → W.trueMark ≤ W.mark t′ c → W.mark t′ c ≡ W.markOf (verdictIn j c)
   pub counts : (w : ℕ) → W.answered j t′ w ≡ W.answered j t w
   pub answers : (k : ℕ) → getD t′ (W.answerWord j k) 0 ≡ getD t (W.answerWord j k) 0
 
@@ -29,7 +29,7 @@ module _ {j : Job} where
       record {
         kept = λ c h d. let e = a .kept c h d in b .kept c h (omega arith) ∙ e;
         new = λ c h m d.
-            by-cases (decLe 256 (W.mark u c))
+            by-cases (decLe W.trueMark (W.mark u c))
             (λ l. b .kept c h l ∙ a .new c h m l) (λ l. b .new c h (omega arith) d);
         counts = λ w. b .counts w ∙ a .counts w;
         answers = λ k. b .answers k ∙ a .answers k;
@@ -51,7 +51,7 @@ module _ {j : Job} where
   pub moved-steady : (t : List ℕ) (c : ℕ) → c < j .claims → Steady j t (moved t c)
   moved-steady t c low = cursor-steady t c (W.cursor t c + 1) low
 
-  pub open-steady : (t : List ℕ) (w b : ℕ) → w < 32 → b < j .claims → W.numberWord b < length t → W.mark t b ≡ 0 → Steady j t (openClaim t w b)
+  pub open-steady : (t : List ℕ) (w b : ℕ) → w < mostWorkers → b < j .claims → W.numberWord b < length t → W.mark t b ≡ 0 → Steady j t (openClaim t w b)
   open-steady t w b few low long z =
       record {
         kept = λ c h d. X.open-marks t w b c (λ e. omega (arith, ap (W.mark t) e));
@@ -64,7 +64,7 @@ module _ {j : Job} where
       }
 
   -- marks stored at claims that are not complete, either below 256 or verdicts'
-  pub all-steady : (f : ℕ → ℕ) (cs t : List ℕ) → ((c : ℕ) → In c cs → (c < j .claims) × (W.mark t c < 256)) → ((c : ℕ) → 256 ≤ f c → f c ≡ W.markOf (verdictIn j c)) → 8 + 3 * j .claims ≤ length t → Steady j t (markAll f cs t)
+  pub all-steady : (f : ℕ → ℕ) (cs t : List ℕ) → ((c : ℕ) → In c cs → (c < j .claims) × (W.mark t c < W.trueMark)) → ((c : ℕ) → W.trueMark ≤ f c → f c ≡ W.markOf (verdictIn j c)) → W.workersFrom (j .claims) ≤ length t → Steady j t (markAll f cs t)
   all-steady f cs t h g long =
       record {
         kept = λ c l d. X.marks-out j f cs t low c (λ i. omega (arith, h c i .1));
@@ -76,7 +76,7 @@ module _ {j : Job} where
       low : (c : ℕ) → In c cs → c < j .claims
       low c i = h c i .0
 
-      go : (c : ℕ) → W.mark t c < 256 → 256 ≤ W.mark (markAll f cs t) c → Dec (In c cs) → W.mark (markAll f cs t) c ≡ W.markOf (verdictIn j c)
+      go : (c : ℕ) → W.mark t c < W.trueMark → W.trueMark ≤ W.mark (markAll f cs t) c → Dec (In c cs) → W.mark (markAll f cs t) c ≡ W.markOf (verdictIn j c)
       go c m d (yes i) =
           let e = X.marks-in f cs t c (omega (arith, low c i)) i in
           e ∙ g c (omega arith)

@@ -37,7 +37,7 @@ pub record Taken (j : Job) (t : List ℕ) (c x : ℕ) : Type 0 where
   pub inside : In x (reached j (moved t c) c)
   pub low : x < j .claims
   pub begun : W.mark t x ≡ 0 → ⊥
-  pub still : W.mark t x < 256
+  pub still : W.mark t x < W.trueMark
 
 module _ (j : Job) (J : JobOk j) (t : List ℕ) (R : InRange j t) (w : ℕ) (small : w < j .workers) {n c : ℕ} (at : AtLeft j t w n c) where
   abbrev b : ℕ
@@ -70,7 +70,7 @@ module _ (j : Job) (J : JobOk j) (t : List ℕ) (R : InRange j t) (w : ℕ) (sma
     to-plus x y e =
         go (moved-passes j J t R w small at free u (moved-alike j J t R w small at) (λ x l. refl) .more (e .passed)) (omega (arith, e .ahead, moved-claims j J t R w small at .marks y))
       where
-        go : {x y : ℕ} → Plus (view j t .Passed) c b x y → view j t .mark y < 256 → Plus (Edge (view j t)) c b x y
+        go : {x y : ℕ} → Plus (view j t .Passed) c b x y → view j t .mark y < W.trueMark → Plus (Edge (view j t)) c b x y
         go (old p) l = old (record { passed = p; ahead = l })
         go new l = new
 

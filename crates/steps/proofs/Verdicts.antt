@@ -30,8 +30,8 @@ abbrev pub verdictIn : Job → ℕ → Verdict
 verdictIn j c = verdict (programOf j) c
 
 pub record Verdicts (j : Job) (t : List ℕ) : Type 0 where
-  pub marks : (c : ℕ) → c < j .claims → 256 ≤ W.mark t c → W.mark t c ≡ W.markOf (verdictIn j c)
-  pub met : (w i : ℕ) → w < j .workers → i < W.answered j t w → 256 ≤ W.mark t (questionClaim j w i)
+  pub marks : (c : ℕ) → c < j .claims → W.trueMark ≤ W.mark t c → W.mark t c ≡ W.markOf (verdictIn j c)
+  pub met : (w i : ℕ) → w < j .workers → i < W.answered j t w → W.trueMark ≤ W.mark t (questionClaim j w i)
   pub words : (w i : ℕ) → w < j .workers → i < W.answered j t w → answerTo j t w i ≡ byteOf (verdictIn j (questionClaim j w i))
   pub blank : (w i : ℕ) → w < j .workers → W.answered j t w ≤ i → i < length (askedBy j w) → answerTo j t w i ≡ 0
 
@@ -53,7 +53,7 @@ module _ {j : Job} {t : List ℕ} (G : Verdicts j t) where
   right c v e =
       by-cases (decLt c (j .claims))
       (λ h.
-      by-cases (decLe 256 (W.mark t c))
+      by-cases (decLe W.trueMark (W.mark t c))
       (λ d.
       let q : W.valueOf (W.mark t c) ≡ byteOf (verdictIn j c) = omega (arith, G .marks c h d) in
       same (sym e ∙ shown c h ∙ ap verdictOf q ∙ M.knownBytes .back (verdictIn j c)))

@@ -123,7 +123,7 @@ module _ {j : Job} (J : JobOk j) {t t′ : List ℕ} where
       }
 
   -- no cursor moves, and complete marks stay
-  module _ (kept : (x : ℕ) → x < j .claims → 256 ≤ W.mark t x → W.mark t′ x ≡ W.mark t x) (f : (c : ℕ) → c < j .claims → W.cursor t′ c ≡ W.cursor t c) where
+  module _ (kept : (x : ℕ) → x < j .claims → W.trueMark ≤ W.mark t x → W.mark t′ x ≡ W.mark t x) (f : (c : ℕ) → c < j .claims → W.cursor t′ c ≡ W.cursor t c) where
     abbrev fade-more : {x y : ℕ} → PassedAt j t′ x y → PassedAt j t x y
     fade-more {x} p =
         longer p (omega (arith, p .before, f x (p .claim))) (λ b. p .clear (behind-kept J kept (omega (arith, p .real)) b))
@@ -134,7 +134,7 @@ module _ {j : Job} (J : JobOk j) {t t′ : List ℕ} where
         let z = getD (lits j x) (b .at) 0 in
         let h : getD (lits j x) (b .at) 0 < j .claims = J .literal x (b .at) (omega (arith, b .before, p .real)) in
         let e = claim-lit j x (b .at) in
-        let d : 256 ≤ W.mark t′ z = subst (λ (v : ℕ). 256 ≤ W.mark t′ v) (sym e) (failed-done t′ (litAt j x (b .at)) (b .fails)) in
+        let d : W.trueMark ≤ W.mark t′ z = subst (λ (v : ℕ). W.trueMark ≤ W.mark t′ v) (sym e) (failed-done t′ (litAt j x (b .at)) (b .fails)) in
         let q : PassedAt j t x z =
         record {
           at = b .at;
@@ -145,7 +145,7 @@ module _ {j : Job} (J : JobOk j) {t t′ : List ℕ} where
           clear = λ a. p .clear (behind-rest (omega (arith, b .before)) (b .within) a);
         } in
         behind {z = z} (record { literal = q; since = omega (arith, b .before, p .before) })
-        (by-cases (decLt (W.mark t z) 256) (λ l. omega (arith, low-in (W.mark t z) h, l))
+        (by-cases (decLt (W.mark t z) W.trueMark) (λ l. omega (arith, low-in (W.mark t z) h, l))
         (λ l.
         absurd
         (p .clear

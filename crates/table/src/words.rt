@@ -1,14 +1,14 @@
 // Where each word of a table stands, and what it holds; the header that a table of a job has; and what a mark shows.
 // The contracts cite specs/: Layout, Reading.
 ghost use mathlib.Core.Path.{_≡_};
-ghost use Prim.Native.Nat.{_<_, _≤_};
+ghost use Prim.Native.Nat.{_<_};
 ghost use lib.Dec.{leb};
 ghost use lib.ListN.{length, getD};
 ghost use Rattle.base.specs.Number.{Number};
 ghost use Rattle.job.specs.Accepted.{WellFormed};
 ghost use Rattle.job.specs.Format.{jobOf};
 ghost use Rattle.table.specs.Layout.{Place, openedWord, markWord, cursorWord, numberWord, workersFrom, awaitedAt, answeredAt, answersFrom, answerAt, used, header};
-ghost use Rattle.table.specs.Layout.{opened, mark as markIn, cursor, number, mostValue, trueMark, valueOf, markOfValue};
+ghost use Rattle.table.specs.Layout.{opened, mark as markIn, cursor, number, trueMark, valueOf, markOfValue};
 ghost use Rattle.table.specs.Reading.{readingOf};
 use crate::Reading;
 use base::wide;
@@ -208,7 +208,7 @@ pub fn value_of(mark: usize) -> usize
 
 // The mark of a value.
 pub fn mark_of_value(value: usize) -> usize
-    requires { ⌜ value ≤ mostValue ⌝ }
+    requires { ⌜ value < 256 ⌝ }
     ensures { λ r. ⌜ r ≡ markOfValue value ⌝ }
 {
     VALUE_BASE + value

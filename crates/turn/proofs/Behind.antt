@@ -19,32 +19,32 @@ use Rattle.job.proofs.RuleEnds.{end-same}
 use Rattle.job.specs.declared.Literal.{Literal}
 use Rattle.job.specs.declared.Literal.the-variants.{Plain, Negated}
 use Rattle.table.specs.Layout as W
-use Rattle.turn.specs.Turn.{lits, litAt, falseMark, failed, clear}
+use Rattle.turn.specs.Turn.{lits, litAt, failingMark, failed, clear}
 use Rattle.turn.proofs.Tests.{is-eq}
 use Rattle.turn.proofs.Jobs.{JobOk}
 
-false-least : (l : Literal) → 256 ≤ falseMark l
+false-least : (l : Literal) → W.trueMark ≤ failingMark l
 false-least (Plain c) = omega arith
 false-least (Negated c) = omega arith
 
 -- what is complete and false
-pub failed-done : (t : List ℕ) (l : Literal) → T (failed t l) → 256 ≤ W.mark t (claimOf l)
+pub failed-done : (t : List ℕ) (l : Literal) → T (failed t l) → W.trueMark ≤ W.mark t (claimOf l)
 unfolding failed
-failed-done t l h = omega (arith, eqb→eq (W.mark t (claimOf l)) (falseMark l) h, false-least l)
+failed-done t l h = omega (arith, eqb→eq (W.mark t (claimOf l)) (failingMark l) h, false-least l)
 
 pub failed-same : (t t′ : List ℕ) (l : Literal) → W.mark t′ (claimOf l) ≡ W.mark t (claimOf l) → T (failed t l) → T (failed t′ l)
 unfolding failed
-failed-same t t′ l e h = is-eq (W.mark t′ (claimOf l)) (falseMark l) (e ∙ eqb→eq (W.mark t (claimOf l)) (falseMark l) h)
+failed-same t t′ l e h = is-eq (W.mark t′ (claimOf l)) (failingMark l) (e ∙ eqb→eq (W.mark t (claimOf l)) (failingMark l) h)
 
 pub data Alike (m m′ : ℕ) : Type 0 where
   same : m′ ≡ m → Alike m m′
-  below : m < 256 → m′ < 256 → Alike m m′
+  below : m < W.trueMark → m′ < W.trueMark → Alike m m′
 
 pub alike-back : {m m′ : ℕ} → Alike m m′ → Alike m′ m
 alike-back (same e) = same (sym e)
 alike-back (below l h) = below h l
 
-alike-kept : {m m′ : ℕ} → Alike m m′ → 256 ≤ m → m′ ≡ m
+alike-kept : {m m′ : ℕ} → Alike m m′ → W.trueMark ≤ m → m′ ≡ m
 alike-kept (same e) h = e
 alike-kept (below l k) h = absurd (omega arith)
 
@@ -108,7 +108,7 @@ module _ {j : Job} {t : List ℕ} {c : ℕ} where
 
 -- complete marks stay
 module _ {j : Job} (J : JobOk j) {t t′ : List ℕ} where
-  pub behind-kept : ((x : ℕ) → x < j .claims → 256 ≤ W.mark t x → W.mark t′ x ≡ W.mark t x) → {c k : ℕ} → k ≤ length (lits j c) → Behind j t c k → Behind j t′ c k
+  pub behind-kept : ((x : ℕ) → x < j .claims → W.trueMark ≤ W.mark t x → W.mark t′ x ≡ W.mark t x) → {c k : ℕ} → k ≤ length (lits j c) → Behind j t c k → Behind j t′ c k
   behind-kept f {c} {k} l b =
       let x = claimOf (litAt j c (b .at)) in
       let low : claimOf (litAt j c (b .at)) < j .claims = subst (λ (x : ℕ). x < j .claims) (claim-lit j c (b .at)) (J .literal c (b .at) (omega (arith, b .before))) in

@@ -53,7 +53,7 @@ pub record AtLeft (j : Job) (t : List ℕ) (w n c : ℕ) : Type 0 where
 
 pub record Others (t : List ℕ) (w b : ℕ) : Type 0 where
   pub opened : W.mark t b ≡ 0 → ⊥
-  pub still : W.mark t b < 256
+  pub still : W.mark t b < W.trueMark
   pub other : W.mark t b ≡ w + 1 → ⊥
 
 abbrev pub literal : Job → List ℕ → ℕ → ℕ
@@ -83,18 +83,18 @@ stored j t w =
 
 pub data Case (j : Job) (t : List ℕ) (w : ℕ) : Turned → Type 0 where
   -- w awaits a claim
-  wakes : (W.awaited j t w ≡ 0 → ⊥) → 256 ≤ W.mark t (W.awaited j t w - 1) → Case j t w (record { kind = Woke; table = set t (W.awaitedWord j w) 0 })
-  sleeps : (W.awaited j t w ≡ 0 → ⊥) → W.mark t (W.awaited j t w - 1) < 256 → Case j t w (record { kind = Idle; table = t })
+  wakes : (W.awaited j t w ≡ 0 → ⊥) → W.trueMark ≤ W.mark t (W.awaited j t w - 1) → Case j t w (record { kind = Woke; table = set t (W.awaitedWord j w) 0 })
+  sleeps : (W.awaited j t w ≡ 0 → ⊥) → W.mark t (W.awaited j t w - 1) < W.trueMark → Case j t w (record { kind = Idle; table = t })
   -- w owns nothing open
   rests : W.awaited j t w ≡ 0 → ((x : ℕ) → x < j .claims → W.mark t x ≡ w + 1 → ⊥) → length (askedBy j w) ≤ W.answered j t w → Case j t w (record { kind = Idle; table = t })
-  answers : AtQuestion j t w → 256 ≤ W.mark t (asked j t w) → Case j t w (record { kind = Answered; table = stored j t w })
+  answers : AtQuestion j t w → W.trueMark ≤ W.mark t (asked j t w) → Case j t w (record { kind = Answered; table = stored j t w })
   opens-asked : AtQuestion j t w → W.mark t (asked j t w) ≡ 0 → Case j t w (record { kind = Opened; table = openClaim t w (asked j t w) })
-  waits-asked : AtQuestion j t w → (W.mark t (asked j t w) ≡ 0 → ⊥) → W.mark t (asked j t w) < 256 → Case j t w (record { kind = Waits; table = set t (W.awaitedWord j w) (asked j t w + 1) })
+  waits-asked : AtQuestion j t w → (W.mark t (asked j t w) ≡ 0 → ⊥) → W.mark t (asked j t w) < W.trueMark → Case j t w (record { kind = Waits; table = set t (W.awaitedWord j w) (asked j t w + 1) })
   -- N is w's newest open claim
   completes : {n : ℕ} → AtNewest j t w n → ((x : ℕ) → In x (reached j t n) → (W.mark t x ≡ w + 1) × Full j t x) → Case j t w (record { kind = Completed; table = markAll (completedMark j t) (reached j t n) t })
   sticks : {n : ℕ} → AtNewest j t w n → (((x : ℕ) → In x (reached j t n) → (W.mark t x ≡ w + 1) × Full j t x) → ⊥) → ((x : ℕ) → In x (reached j t n) → W.mark t x ≡ w + 1 → (Full j t x → ⊥) → ⊥) → Case j t w (record { kind = Idle; table = t })
   -- C passes a literal, or skips the rest of its rule
-  passes : {n c : ℕ} → AtLeft j t w n c → (256 ≤ W.mark t (literal j t c)) ⊎ (W.mark t (literal j t c) ≡ w + 1) → Clear j t c → Case j t w (record { kind = Passed; table = moved t c })
+  passes : {n c : ℕ} → AtLeft j t w n c → (W.trueMark ≤ W.mark t (literal j t c)) ⊎ (W.mark t (literal j t c) ≡ w + 1) → Clear j t c → Case j t w (record { kind = Passed; table = moved t c })
   skips : {n c : ℕ} → AtLeft j t w n c → Behind j t c (W.cursor t c) → Case j t w (record { kind = Passed; table = skipped j t c })
   opens : {n c : ℕ} → AtLeft j t w n c → W.mark t (literal j t c) ≡ 0 → Clear j t c → Case j t w (record { kind = Opened; table = openClaim (moved t c) w (literal j t c) })
   takes : {n c : ℕ} → AtLeft j t w n c → Others t w (literal j t c) → T (meets (j .workers) j t w (W.mark t (literal j t c) - 1)) → Clear j t c → Case j t w (record { kind = Took; table = markAll (λ d. w + 1) (taken j t c) (moved t c) })
@@ -107,10 +107,10 @@ module _ (j : Job) (t : List ℕ) (w : ℕ) where
       pick-elim (Case j t w) (leb (length (askedBy j w)) (W.answered j t w)) (λ l. rests free nothing (leb→le _ _ l))
       (λ l.
       let at : AtQuestion j t w = record { free = free; nothing = nothing; more = nleb→lt _ _ l } in
-      pick-elim (Case j t w) (W.complete t (asked j t w)) (λ d. answers at (leb→le 256 (W.mark t (asked j t w)) d))
+      pick-elim (Case j t w) (W.complete t (asked j t w)) (λ d. answers at (leb→le W.trueMark (W.mark t (asked j t w)) d))
       (λ d.
       pick-elim (Case j t w) (W.fresh t (asked j t w)) (λ f. opens-asked at (eqb→eq (W.mark t (asked j t w)) 0 f))
-      (λ f. waits-asked at (not-eq (W.mark t (asked j t w)) 0 f) (nleb→lt 256 (W.mark t (asked j t w)) d))))
+      (λ f. waits-asked at (not-eq (W.mark t (asked j t w)) 0 f) (nleb→lt W.trueMark (W.mark t (asked j t w)) d))))
 
   pass-case : {n c : ℕ} → AtLeft j t w n c → Case j t w (passTurn j t w c)
   unfolding passTurn
@@ -119,13 +119,13 @@ module _ (j : Job) (t : List ℕ) (w : ℕ) where
       pick-elim (Case j t w) (clear j t c (W.cursor t c))
       (λ h.
       let k : Clear j t c = clear-not j t c (W.cursor t c) h in
-      pick-elim (Case j t w) (W.complete t b) (λ d. passes at (inl (leb→le 256 (W.mark t b) d)) k)
+      pick-elim (Case j t w) (W.complete t b) (λ d. passes at (inl (leb→le W.trueMark (W.mark t b) d)) k)
       (λ d.
       pick-elim (Case j t w) (W.owned t w b) (λ m. passes at (inr (eqb→eq (W.mark t b) (w + 1) m)) k)
       (λ m.
       pick-elim (Case j t w) (W.fresh t b) (λ f. opens at (eqb→eq (W.mark t b) 0 f) k)
       (λ f.
-      let o : Others t w b = record { opened = not-eq (W.mark t b) 0 f; still = nleb→lt 256 (W.mark t b) d; other = not-eq (W.mark t b) (w + 1) m } in
+      let o : Others t w b = record { opened = not-eq (W.mark t b) 0 f; still = nleb→lt W.trueMark (W.mark t b) d; other = not-eq (W.mark t b) (w + 1) m } in
       pick-elim (Case j t w) (meets (j .workers) j t w (W.mark t b - 1)) (λ g. takes at o g k) (λ g. waits at o g k)))))
       (λ h. skips at (behind-of j t c (W.cursor t c) h))
 
@@ -185,8 +185,8 @@ module _ (j : Job) (t : List ℕ) (w : ℕ) where
       pick-elim (Case j t w) (eqb (W.awaited j t w) 0) (λ z. go (eqb→eq (W.awaited j t w) 0 z) (newest t mines) (newest-of t mines))
       (λ z.
       pick-elim (Case j t w) (W.complete t (W.awaited j t w - 1))
-      (λ d. wakes (not-eq (W.awaited j t w) 0 z) (leb→le 256 (W.mark t (W.awaited j t w - 1)) d))
-      (λ d. sleeps (not-eq (W.awaited j t w) 0 z) (nleb→lt 256 (W.mark t (W.awaited j t w - 1)) d)))
+      (λ d. wakes (not-eq (W.awaited j t w) 0 z) (leb→le W.trueMark (W.mark t (W.awaited j t w - 1)) d))
+      (λ d. sleeps (not-eq (W.awaited j t w) 0 z) (nleb→lt W.trueMark (W.mark t (W.awaited j t w - 1)) d)))
     where
       mines : List ℕ
       mines = keep (W.owned t w) (upto (j .claims))

@@ -15,6 +15,7 @@ use lib.Dec.{ltb, eqb}
 use lib.ListN.{length, getD, set, drop}
 use Rattle.base.specs.Choose.{pick}
 use Rattle.base.specs.Span.{span}
+use Rattle.base.specs.Sets.{setOf}
 use Rattle.base.specs.Lists.{upto, keep, every, isIn}
 use Rattle.base.proofs.Bools.{is-true, and-both}
 use Rattle.base.proofs.Choose.{pick-elim, pick-true, pick-false}
@@ -22,18 +23,16 @@ use Rattle.base.proofs.Lists.{In, in-head, in-tail, upto-in, keep-in, keep-same
 use Rattle.job.specs.Job.{Job}
 use Rattle.job.specs.Format.{claims, jobOf}
 use Rattle.semantics.specs.Model.{programOf, verdict, exchange, knownOf}
-use Rattle.model.specs.Output.{verdictBytes, knownOutput}
-use Rattle.model.specs.Passes.{setOf, givenProgram}
-use Rattle.model.proofs.Rules.{claims-given}
-use Rattle.model.proofs.Written.{outputBytes}
-use Rattle.table.specs.Layout.{markWord, mark, cursor, number, owned, valueOf, markOf, values}
+use Rattle.model.specs.Exchanged.{givenProgram}
+use Rattle.model.specs.Output.{OutputBytes}
+use Rattle.table.specs.Layout.{markWord, mark, cursor, number, owned, valueOf, markOf, values, markOfValue}
 use Rattle.table.proofs.Sizes.{sizes}
 use Rattle.turn.specs.Turn.{Turned, lits, spread, spreads, reached, newest, allPassed, completedMark, markAll, passTurn, workTurn}
 use Rattle.turn.specs.Ready.{Ready, Made, members, passedIn}
 use Rattle.turn.specs.declared.Kind.{Kind}
 use Rattle.turn.specs.declared.Kind.the-variants.{Idle, Completed}
 use Rattle.turn.proofs.Making.{made-as, made-from}
-use Rattle.turn.proofs.Cursors.{size-is}
+use Rattle.turn.proofs.Cursors.{passed-same}
 use Rattle.turn.proofs.Jobs.{lits-length}
 
 -- what is reached stands in rising order
@@ -109,23 +108,19 @@ abbrev completedBy : Job → List ℕ → ℕ → ℕ
 completedBy j g c = markOf (verdict (exchange (knownOf g) (programOf j)) c)
 
 -- completion: g are the values before, o those after
-module _ (s t : List ℕ) {g o : List ℕ} (o₀ : List ℕ) (n : ℕ) (long : n ≡ claims s) (e : g ≡ span (λ c. valueOf (mark t c)) 0 n) (h : o ≡ knownOutput s g o₀) where
+module _ (s t : List ℕ) {g o : List ℕ} (o₀ : List ℕ) (n : ℕ) (long : n ≡ claims s) (e : g ≡ span (λ c. valueOf (mark t c)) 0 n) (h : OutputBytes s (givenProgram s g) o₀ o) where
   values-are : g ≡ values (jobOf s) t
   unfolding values
   values-are = e ∙ ap (span (λ c. valueOf (mark t c)) 0) (long ∙ sym (sizes s .claims-are))
 
-  byte-is : (d : ℕ) → d < claims s → 255 + getD o d 0 ≡ completedMark (jobOf s) t d
+  byte-is : (d : ℕ) → d < claims s → markOfValue (getD o d 0) ≡ completedMark (jobOf s) t d
   unfolding completedMark
   byte-is d l =
-      let P = givenProgram s g in
-      let z = claims-given s g in
-      let q : getD (knownOutput s g o₀) d 0 ≡ getD (verdictBytes P ++ drop (P .claims) o₀) d 0 = ap (λ (k : ℕ). getD (verdictBytes P ++ drop k o₀) d 0) (sym z) in
-      ap (λ (x : ℕ). 255 + x) (ap (λ (x : List ℕ). getD x d 0) h ∙ (q ∙ outputBytes P o₀ .verdictAt d (omega arith)))
-      ∙ ap (λ (x : List ℕ). completedBy (jobOf s) x d) values-are
+      ap (λ (x : ℕ). markOfValue x) (h .verdictAt d l) ∙ ap (λ (x : List ℕ). completedBy (jobOf s) x d) values-are
 
-  pub completed : (seen : List ℕ) → length seen ≡ claims s → {u : List ℕ} → u ≡ markAll (λ d. 255 + getD o d 0) (members seen) t → u ≡ markAll (completedMark (jobOf s) t) (members seen) t
+  pub completed : (seen : List ℕ) → length seen ≡ claims s → {u : List ℕ} → u ≡ markAll (λ d. markOfValue (getD o d 0)) (members seen) t → u ≡ markAll (completedMark (jobOf s) t) (members seen) t
   completed seen k q =
-      q ∙ marks-same (λ d. 255 + getD o d 0) (completedMark (jobOf s) t) (members seen) t (λ d i. byte-is d (omega (arith, member-low seen d i)))
+      q ∙ marks-same (λ d. markOfValue (getD o d 0)) (completedMark (jobOf s) t) (members seen) t (λ d i. byte-is d (omega (arith, member-low seen d i)))
 
 differ : (x y : ℕ) → not (eqb x y) ≡ true → x ≡ y → ⊥
 differ x y e h = false≢true (ap not (sym (eq-eqb x y h)) ∙ e)
@@ -142,8 +137,8 @@ module _ (s index t : List ℕ) (r : Ready s index t) (w n : ℕ) (l : n < claim
   low d i = omega (arith, member-low seen d i)
 
   all-passed : (d : ℕ) → In d (members seen) → passedIn index t d ≡ allPassed j t d
-  unfolding allPassed
-  all-passed d i = ap (eqb (cursor t d)) (size-is s index (r .job) (r .indexed) d (low d i))
+  all-passed d i =
+      passed-same s index (r .job) (r .indexed) d (low d i) t (omega (arith, lits-length j d, r .table .claim d (omega (arith, low d i, sizes s .claims-are)) .read))
 
   abbrev done : Bool
   done = every (λ d. owned t w d && passedIn index t d) (members seen)
@@ -176,9 +171,10 @@ module _ (s index t : List ℕ) (r : Ready s index t) (w n : ℕ) (l : n < claim
 
   -- the newest with a literal left is w's, and has one
   pub left-one : {k : ℕ} → k ≡ newest t toPass → (k ≡ 0 → ⊥) → (k - 1 < claims s) × (owned t w (k - 1) ≡ true) × (cursor t (k - 1) < length (lits j (k - 1)))
+  unfolding allPassed
   left-one {k} x h =
       let i = keep-in (λ d. owned t w d && not (passedIn index t d)) (k - 1) (members seen) (newest-in t toPass x h) in
       let b = low (k - 1) (i .0) in
       let a = and-both (owned t w (k - 1)) (not (passedIn index t (k - 1))) (is-true _ (i .1)) in
-      let m : cursor t (k - 1) ≡ length (lits j (k - 1)) → ⊥ = λ e. differ (cursor t (k - 1)) _ (a .1) (e ∙ sym (size-is s index (r .job) (r .indexed) (k - 1) b)) in
+      let m : cursor t (k - 1) ≡ length (lits j (k - 1)) → ⊥ = differ (cursor t (k - 1)) (length (lits j (k - 1))) (ap not (sym (all-passed (k - 1) (i .0))) ∙ a .1) in
       (b, a .0, omega (arith, lits-length j (k - 1), r .table .claim (k - 1) (omega (arith, sizes s .claims-are)) .read))

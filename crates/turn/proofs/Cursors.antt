@@ -1,6 +1,6 @@
 -- A claim passes a literal: which it is, the table with the cursor moved on, and the turn by what was read. Assumes nothing.
---   size-is           how many literals a claim has, by the index
---   next-few, next-room, next-is   the literal that a claim passes next
+--   passed-same       whether a claim has passed all its literals, by the index
+--   next-..           the literal that a claim passes next, by the cursor; moved-low, moved-by-one   the cursor past it
 --   meets-same        owners are followed alike in tables with the same marks and the same claims awaited
 --   opened-few        where a claim is fresh, not all are opened
 --   Passing           what was read of claim c and its next literal's claim b, and the table u with c's cursor moved on
@@ -23,18 +23,18 @@ use Rattle.base.proofs.Choose.{pick-true, pick-false}
 use Rattle.base.proofs.Lists.{keep-same}
 use Rattle.base.proofs.Sets.{count-le, count-mono, count-less}
 use Rattle.base.proofs.Span.{getD-span}
-use Rattle.job.specs.Job.{Job, claimOf, literalsOf}
+use Rattle.job.specs.Job.{Job, claimOf, literalsOf, mostClaims, mostLiterals}
 use Rattle.job.specs.Format.{claims, rules, literals, workers, literalByte, literalAt, jobOf}
 use Rattle.job.specs.Accepted.{WellFormed}
-use Rattle.job.specs.Claims.{claimStart, Index}
+use Rattle.job.specs.Claims.{claimStart, Index, moved}
 use Rattle.job.specs.declared.Literal.{Literal}
 use Rattle.job.specs.declared.Cursor.{Cursor}
 use Rattle.job.proofs.Contiguous.{claim-literals}
-use Rattle.table.specs.Layout.{opened, markWord, cursorWord, numberWord, mark, cursor, number, awaitedWord, awaited, answerWord, fresh}
+use Rattle.table.specs.Layout.{opened, markWord, cursorWord, numberWord, mark, cursor, number, awaitedWord, awaited, answerWord, fresh, answeredAt, awaitedAt, openedWord, trueMark, undefinedMark, workersFrom}
 use Rattle.table.specs.Ranges.{marked, ClaimInRange, InRange}
 use Rattle.table.proofs.Sizes.{sizes}
-use Rattle.turn.specs.Turn.{Turned, lits, clear, reached, openClaim, markAll, meets, passTurn}
-use Rattle.turn.specs.Ready.{Ready, Made, sizeIn}
+use Rattle.turn.specs.Turn.{Turned, lits, allPassed, clear, reached, openClaim, markAll, meets, passTurn}
+use Rattle.turn.specs.Ready.{Ready, Made, passedIn}
 use Rattle.turn.specs.declared.Kind.the-variants.{Opened, Waits, Took, Passed}
 use Rattle.turn.proofs.Making.{made-as, made-from}
 use Rattle.turn.proofs.Following.{room, open-owner}
@@ -42,10 +42,18 @@ use Rattle.turn.proofs.Jobs.{lits-length}
 use Rattle.turn.proofs.Gathering.{lits-span}
 
 module _ (s index : List ℕ) (f : WellFormed s) (x : Index s index) (c : ℕ) (l : c < claims s) where
-  pub size-is : sizeIn index c ≡ length (lits (jobOf s) c)
-  size-is = omega (arith, x .starts c (omega arith), x .starts (c + 1) (omega arith), claim-literals s f c .count, lits-length (jobOf s) c)
+  -- whether a claim has passed all its literals, by the index
+  pub passed-same : (t : List ℕ) → cursor t c ≤ length (lits (jobOf s) c) → passedIn index t c ≡ allPassed (jobOf s) t c
+  unfolding allPassed
+  passed-same t h =
+      let p = claim-literals s f c in
+      let e : getD index (c + 1) 0 ≡ getD index c 0 + length (lits (jobOf s) c) =
+      omega (arith, x .starts c (omega arith), x .starts (c + 1) (omega arith), p .count, p .ordered, lits-length (jobOf s) c) in
+      by-cases (ℕ-discrete (cursor t c) (length (lits (jobOf s) c)))
+      (λ q. le-leb _ _ (omega arith) ∙ sym (eq-eqb _ _ q))
+      (λ q. lt-leb _ _ (omega arith) ∙ sym (ne-eqb _ _ q))
 
-  -- with n literals passed and one left
+  -- with n literals passed and one left, the cursor k over them
   module _ (n : ℕ) (some : n < length (lits (jobOf s) c)) where
     within : n < claimStart s (c + 1) - claimStart s c
     within = omega (arith, claim-literals s f c .count, lits-length (jobOf s) c)
@@ -53,20 +61,35 @@ module _ (s index : List ℕ) (f : WellFormed s) (x : Index s index) (c : ℕ) (
     next-low : claimStart s c + n < literals s
     next-low = omega (arith, within, claim-literals s f c .within)
 
-    pub next-few : n ≤ 16384
+    pub next-few : n ≤ mostLiterals
     next-few = omega (arith, next-low, f .sized .literalsMost)
 
-    module _ {m : ℕ} (i : m ≡ rules s) {r : Cursor} (e : r ≡ record { at = getD index c 0 + n; end = getD index (c + 1) 0 }) where
-      at-is : r .at ≡ claimStart s c + n
-      at-is = ap (λ (y : Cursor). y .at) e ∙ ap (λ (y : ℕ). y + n) (x .starts c (omega arith))
+    module _ {p : ℕ} (q : p ≡ n) {k : Cursor} (e : k ≡ record { at = getD index c 0 + p; end = getD index (c + 1) 0 }) where
+      at-is : k .at ≡ claimStart s c + n
+      at-is = ap (λ (y : Cursor). y .at) e ∙ ap₂ (λ (y z : ℕ). y + z) (x .starts c (omega arith)) q
 
-      pub next-room : literalByte m (r .at) + 2 ≤ length s
-      next-room = omega (arith, at-is, next-low, f .sized .size)
+      pub next-there : k .at < literals s
+      next-there = omega (arith, at-is, next-low)
 
-      pub next-is : {y : Literal} → y ≡ literalAt s m (r .at) → {b : ℕ} → b ≡ claimOf y → (b ≡ getD (lits (jobOf s) c) n 0) × (b < claims s)
-      next-is {y} q {b} h =
-          let z : b ≡ claimOf (literalAt s (rules s) (claimStart s c + n)) = h ∙ (ap claimOf q ∙ ap₂ (λ (u v : ℕ). claimOf (literalAt s u v)) i at-is) in
-          (z ∙ sym (ap (λ (ys : List ℕ). getD ys n 0) (lits-span s f c) ∙ getD-span (λ i. claimOf (literalAt s (rules s) i)) (claimStart s c) _ n 0 within), subst⁻¹ (λ (v : ℕ). v < claims s) z (f .literal _ next-low))
+      pub next-left : k .at < k .end
+      next-left = omega (arith, at-is, within, ap (λ (y : Cursor). y .end) e, x .starts (c + 1) (omega arith))
+
+      pub next-is : {b : ℕ} → b ≡ claimOf (literalAt s (rules s) (k .at)) → b ≡ getD (lits (jobOf s) c) p 0
+      next-is {b} h =
+          h
+          ∙ (ap (λ (v : ℕ). claimOf (literalAt s (rules s) v)) at-is
+          ∙ (sym (ap (λ (ys : List ℕ). getD ys n 0) (lits-span s f c) ∙ getD-span (λ i. claimOf (literalAt s (rules s) i)) (claimStart s c) _ n 0 within)
+          ∙ ap (λ (v : ℕ). getD (lits (jobOf s) c) v 0) (sym q)))
+
+      -- moved on by one
+      module _ {u : Cursor} (m : u ≡ moved k) where
+        pub moved-low : (getD index c 0 ≤ u .at) × (u .at < 4294967296)
+        moved-low =
+            let z = ap (λ (y : Cursor). y .at) m in
+            (omega (arith, at-is, x .starts c (omega arith)), omega (arith, at-is, next-low, f .sized .literalsMost))
+
+        pub moved-by-one : u .at - getD index c 0 ≡ p + 1
+        moved-by-one = let z = ap (λ (y : Cursor). y .at) m in omega (arith, at-is, x .starts c (omega arith))
 
 -- two tables with the same marks and the same claims awaited
 module _ (j : Job) (t u : List ℕ) (marks : (d : ℕ) → mark u d ≡ mark t d) (awaits : (v : ℕ) → awaited j u v ≡ awaited j t v) where
@@ -74,9 +97,9 @@ module _ (j : Job) (t u : List ℕ) (marks : (d : ℕ) → mark u d ≡ mark t d
   unfolding meets
   meets-same zero w v = refl
   meets-same (suc n) w v =
-      ap (λ (a : ℕ). pick (eqb v w) true (pick (eqb a 0) false (pick (eqb (mark u (a - 1)) 0) false (pick (leb 256 (mark u (a - 1))) false (meets n j u w (mark u (a - 1) - 1)))))) (awaits v)
-      ∙ (ap (λ (m : ℕ). pick (eqb v w) true (pick (eqb (awaited j t v) 0) false (pick (eqb m 0) false (pick (leb 256 m) false (meets n j u w (m - 1)))))) (marks (awaited j t v - 1))
-      ∙ ap (λ (b : Bool). pick (eqb v w) true (pick (eqb (awaited j t v) 0) false (pick (eqb (mark t (awaited j t v - 1)) 0) false (pick (leb 256 (mark t (awaited j t v - 1))) false b)))) (meets-same n w (mark t (awaited j t v - 1) - 1)))
+      ap (λ (a : ℕ). pick (eqb v w) true (pick (eqb a 0) false (pick (eqb (mark u (a - 1)) 0) false (pick (leb trueMark (mark u (a - 1))) false (meets n j u w (mark u (a - 1) - 1)))))) (awaits v)
+      ∙ (ap (λ (m : ℕ). pick (eqb v w) true (pick (eqb (awaited j t v) 0) false (pick (eqb m 0) false (pick (leb trueMark m) false (meets n j u w (m - 1)))))) (marks (awaited j t v - 1))
+      ∙ ap (λ (b : Bool). pick (eqb v w) true (pick (eqb (awaited j t v) 0) false (pick (eqb (mark t (awaited j t v - 1)) 0) false (pick (leb trueMark (mark t (awaited j t v - 1))) false b)))) (meets-same n w (mark t (awaited j t v - 1) - 1)))
 
   fresh-same : (d : ℕ) → not (fresh u d) ≡ not (fresh t d)
   fresh-same d = ap (λ (m : ℕ). not (eqb m 0)) (marks d)
@@ -115,7 +138,7 @@ module _ {s t : List ℕ} {w c p b m : ℕ} {u : List ℕ} (g : Passing s t w c 
   numbers : (d : ℕ) → number u d ≡ number t d
   numbers d = other (numberWord d) (λ q. omega arith)
 
-  past : (i : ℕ) → 8 + 3 * claims s ≤ i → getD u i 0 ≡ getD t i 0
+  past : (i : ℕ) → workersFrom (claims s) ≤ i → getD u i 0 ≡ getD t i 0
   past i h = other i (λ q. omega (arith, g .claim))
 
   awaits : (v : ℕ) → awaited (jobOf s) u v ≡ awaited (jobOf s) t v
@@ -136,7 +159,7 @@ module _ {s t : List ℕ} {w c p b m : ℕ} {u : List ℕ} (g : Passing s t w c 
         let k = marks d in
         let n = numbers d in
         record {
-          markIn = subst⁻¹ (λ (x : ℕ). (x ≤ jobOf s .workers) ⊎ ((256 ≤ x) × (x ≤ 258))) k (q .markIn);
+          markIn = subst⁻¹ (λ (x : ℕ). (x ≤ jobOf s .workers) ⊎ ((trueMark ≤ x) × (x ≤ undefinedMark))) k (q .markIn);
           unread = λ e.
               by-cases (ℕ-discrete d c) (λ z. let o : mark t d ≡ mark t c = ap (mark t) z in absurd (omega (arith, g .own)))
               (λ z. other (cursorWord d) (λ y. z (omega arith)) ∙ q .unread (sym k ∙ e));
@@ -155,20 +178,20 @@ module _ {s t : List ℕ} {w c p b m : ℕ} {u : List ℕ} (g : Passing s t w c 
         record {
           room = omega (arith, r .room, moved-length);
           headerIs = λ i h. other i (λ q. omega arith) ∙ r .headerIs i h;
-          openedIs = other 7 (λ q. omega arith) ∙ (r .openedIs ∙ sym (marked-same (jobOf s) t u marks awaits));
+          openedIs = other openedWord (λ q. omega arith) ∙ (r .openedIs ∙ sym (marked-same (jobOf s) t u marks awaits));
           claim = λ d h. moved-claim d (r .claim d h);
           awaits = λ v h. omega (arith, awaits v, r .awaits v h);
-          answers = λ v h. omega (arith, past (8 + 3 * jobOf s .claims + 2 * v + 1) (omega (arith, z .claims-are)), r .answers v h);
+          answers = λ v h. omega (arith, past (answeredAt (jobOf s .claims) v) (omega (arith, z .claims-are)), r .answers v h);
           values = λ k h. omega (arith, past (answerWord (jobOf s) k) (omega (arith, z .claims-are)), r .values k h);
         }
 
     -- a claim that is fresh can be opened
-    pub moved-opened : m ≡ 0 → opened u < 4096
+    pub moved-opened : m ≡ 0 → opened u < mostClaims
     moved-opened e =
         omega (arith, opened-few (jobOf s) u moved-range b (omega (arith, sizes s .claims-are, g .low)) (marks b ∙ (sym (g .read) ∙ e)), sizes s .claims-are, f .sized .claimsMost)
 
     -- the owner of an open one is a worker
-    pub moved-owner : (m ≡ 0 → ⊥) → m < 256 → m - 1 < workers s
+    pub moved-owner : (m ≡ 0 → ⊥) → m < trueMark → m - 1 < workers s
     moved-owner n h = let k = g .read in omega (arith, open-owner s t r b (g .low) (omega arith))
 
   pub moved-ready : {index : List ℕ} → Ready s index t → Ready s index u
@@ -177,7 +200,7 @@ module _ {s t : List ℕ} {w c p b m : ℕ} {u : List ℕ} (g : Passing s t w c 
 -- the turn, by what was read
 abbrev byParts : Job → ℕ → ℕ → ℕ → List ℕ → Bool → List ℕ → Turned
 byParts j w b m u e taken =
-    pick (leb 256 m) (record { kind = Passed; table = u })
+    pick (leb trueMark m) (record { kind = Passed; table = u })
     (pick (eqb m (w + 1)) (record { kind = Passed; table = u })
     (pick (eqb m 0) (record { kind = Opened; table = openClaim u w b })
     (pick e (record { kind = Took; table = markAll (λ d. w + 1) taken u })
@@ -201,27 +224,27 @@ module _ {s t : List ℕ} {w c p b m : ℕ} {u : List ℕ} (g : Passing s t w c 
       ∙ ap₂ (byParts j w b m u) (sym (meets-same j t u (marks g) (awaits g) (j .workers) w (m - 1)))
       (keep-same (λ d. not (fresh t d)) (λ d. not (fresh u d)) (reached j u c) (λ d i. sym (fresh-same j t u (marks g) (awaits g) d)))))
 
-  pub pass-complete : 256 ≤ m → Made (passTurn j t w c) Passed u
-  pass-complete h = made-as _ _ (parts ∙ pick-true _ _ _ (le-leb 256 m h))
+  pub pass-complete : trueMark ≤ m → Made (passTurn j t w c) Passed u
+  pass-complete h = made-as _ _ (parts ∙ pick-true _ _ _ (le-leb trueMark m h))
 
-  module _ (l : m < 256) where
+  module _ (l : m < trueMark) where
     pub pass-own : m ≡ w + 1 → Made (passTurn j t w c) Passed u
-    pass-own e = made-as _ _ (parts ∙ (pick-false _ _ _ (lt-leb 256 m l) ∙ pick-true _ _ _ (eq-eqb m (w + 1) e)))
+    pass-own e = made-as _ _ (parts ∙ (pick-false _ _ _ (lt-leb trueMark m l) ∙ pick-true _ _ _ (eq-eqb m (w + 1) e)))
 
     module _ (n : m ≡ w + 1 → ⊥) where
       pub pass-fresh : m ≡ 0 → {y : List ℕ} → y ≡ openClaim u w b → Made (passTurn j t w c) Opened y
-      pass-fresh e q = made-from q (made-as _ _ (parts ∙ (pick-false _ _ _ (lt-leb 256 m l) ∙ (pick-false _ _ _ (ne-eqb m (w + 1) n) ∙ pick-true _ _ _ (eq-eqb m 0 e)))))
+      pass-fresh e q = made-from q (made-as _ _ (parts ∙ (pick-false _ _ _ (lt-leb trueMark m l) ∙ (pick-false _ _ _ (ne-eqb m (w + 1) n) ∙ pick-true _ _ _ (eq-eqb m 0 e)))))
 
       module _ (o : m ≡ 0 → ⊥) {z : Bool} (q : z ≡ meets (workers s) j u w (m - 1)) where
         to-other : passTurn j t w c ≡ pick z (record { kind = Took; table = markAll (λ d. w + 1) (taken j u u c) u }) (record { kind = Waits; table = set u (awaitedWord j w) (b + 1) })
         to-other =
-            parts ∙ (pick-false _ _ _ (lt-leb 256 m l) ∙ (pick-false _ _ _ (ne-eqb m (w + 1) n) ∙ (pick-false _ _ _ (ne-eqb m 0 o)
+            parts ∙ (pick-false _ _ _ (lt-leb trueMark m l) ∙ (pick-false _ _ _ (ne-eqb m (w + 1) n) ∙ (pick-false _ _ _ (ne-eqb m 0 o)
             ∙ ap (λ (x : Bool). pick x (record { kind = Took; table = markAll (λ d. w + 1) (taken j u u c) u }) (record { kind = Waits; table = set u (awaitedWord j w) (b + 1) }))
             (ap (λ (k : ℕ). meets k j u w (m - 1)) (sizes s .workers-are) ∙ sym q))))
 
         pub pass-took : z ≡ true → {y : List ℕ} → y ≡ markAll (λ d. w + 1) (taken j u u c) u → Made (passTurn j t w c) Took y
         pass-took e h = made-from h (made-as _ _ (to-other ∙ pick-true _ _ _ e))
 
-        pub pass-waits : z ≡ false → {k : ℕ} → k ≡ claims s → {y : List ℕ} → y ≡ set u (8 + 3 * k + 2 * w) (b + 1) → Made (passTurn j t w c) Waits y
+        pub pass-waits : z ≡ false → {k : ℕ} → k ≡ claims s → {y : List ℕ} → y ≡ set u (awaitedAt k w) (b + 1) → Made (passTurn j t w c) Waits y
         pass-waits e {k} a h =
-            made-from (h ∙ ap (λ (x : ℕ). set u (8 + 3 * x + 2 * w) (b + 1)) (a ∙ sym (sizes s .claims-are))) (made-as _ _ (to-other ∙ pick-false _ _ _ e))
+            made-from (h ∙ ap (λ (x : ℕ). set u (awaitedAt x w) (b + 1)) (a ∙ sym (sizes s .claims-are))) (made-as _ _ (to-other ∙ pick-false _ _ _ e))

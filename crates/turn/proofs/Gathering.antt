@@ -22,15 +22,15 @@ use Rattle.base.proofs.Lists.{In}
 use Rattle.base.proofs.Paths.{trans, one, stays}
 use Rattle.base.proofs.Sets.{count-le, count-mono, count-less}
 use Rattle.base.proofs.Span.{map-span}
-use Rattle.job.specs.Job.{claimOf}
+use Rattle.job.specs.Job.{claimOf, mostClaims, mostLiterals}
 use Rattle.job.specs.Format.{claims, rules, literalAt, jobOf}
 use Rattle.job.specs.Accepted.{WellFormed}
 use Rattle.job.specs.Claims.{claimStart, endIn}
 use Rattle.job.specs.declared.Cursor.{Cursor}
 use Rattle.job.proofs.Contiguous.{claim-literals}
-use Rattle.model.specs.Passes.{setOf}
-use Rattle.model.proofs.Bytes.{cleared-none}
-use Rattle.table.specs.Layout.{mark, cursor, complete}
+use Rattle.base.specs.Sets.{setOf}
+use Rattle.base.proofs.ByteSets.{cleared-none}
+use Rattle.table.specs.Layout.{mark, cursor, complete, numberWord, trueMark}
 use Rattle.turn.specs.Turn.{lits, reached}
 use Rattle.turn.specs.Ready.{Ready}
 use Rattle.turn.specs.Gather.{Work, visits, metFrom, met, Fits, Room}
@@ -84,12 +84,12 @@ module _ (s index t : List ℕ) (r : Ready s index t) (c : ℕ) (h : c < claims 
       let p = leads-passed (jobOf s) (job-ok s (r .job)) t l in
       let a = p .0 in
       let x : Clear s index t (r .job) (r .indexed) c 0 (cursor t c) d = record { at = a .at; from = omega arith; to = a .before; is = a .is; clear = a .clear } in
-      (subst (λ (X : Type 0). X) (from-start d) (in-met s index t (r .job) (r .indexed) c (cursor t c) 0 (cursor t c) within (omega arith) d x), not-T (complete t d) (λ b. absurd (omega (arith, p .1, leb→le 256 (mark t d) b))))
+      (subst (λ (X : Type 0). X) (from-start d) (in-met s index t (r .job) (r .indexed) c (cursor t c) 0 (cursor t c) within (omega arith) d x), not-T (complete t d) (λ b. absurd (omega (arith, p .1, leb→le trueMark (mark t d) b))))
 
   pub leads-of : (d : ℕ) → In d taken → T (not (complete t d)) → Leads (jobOf s) t c d
   leads-of d i n =
       let x = walked d i in
-      passed-leads (jobOf s) (job-ok s (r .job)) t (x .at) (x .to) (omega (arith, x .to, within)) (x .is) (x .clear) (nleb→lt 256 (mark t d) n)
+      passed-leads (jobOf s) (job-ok s (r .job)) t (x .at) (x .to) (omega (arith, x .to, within)) (x .is) (x .clear) (nleb→lt trueMark (mark t d) n)
 
   pub taken-low : (d : ℕ) → In d taken → d < claims s
   taken-low d i =
@@ -105,16 +105,16 @@ module _ (s index t : List ℕ) (r : Ready s index t) (d : ℕ) (l : d < claims 
   pub passed-from : getD index d 0 ≡ claimStart s d
   passed-from = r .indexed .starts d (omega arith)
 
-  pub passed-few : d < 4096
+  pub passed-few : d < mostClaims
   passed-few = omega (arith, r .job .sized .claimsMost)
 
-  pub passed-words : 10 + 3 * d < length t
+  pub passed-words : numberWord d < length t
   passed-words = omega (arith, r .table .room, job-claims s)
 
   passed-most : cursor t d ≤ claimStart s (d + 1) - claimStart s d
   passed-most = omega (arith, r .table .claim d (omega (arith, job-claims s)) .read, claim-literals s (r .job) d .count)
 
-  pub passed-start : getD index d 0 ≤ 16384
+  pub passed-start : getD index d 0 ≤ mostLiterals
   passed-start =
       let p = claim-literals s (r .job) d in
       omega (arith, passed-from, p .within, p .ordered, r .job .sized .literalsMost)
@@ -158,14 +158,14 @@ pub record Gathering (s t : List ℕ) (claim : ℕ) (k : Work) : Type 0 where
   pub stacked : (i : ℕ) → i < k .top → T (setOf (k .seen) (getD (k .stack) i 0))
   pub looked : (d : ℕ) → T (setOf (k .seen) d) → Looked s t k d
 
-pub gathering-top : {s t : List ℕ} {claim : ℕ} {k : Work} → Gathering s t claim k → k .top ≤ 4096
+pub gathering-top : {s t : List ℕ} {claim : ℕ} {k : Work} → Gathering s t claim k → k .top ≤ mostClaims
 gathering-top {s} {t} {claim} {k} g = omega (arith, g .fits .few, g .fits .most, count-le (setOf (k .seen)) (claims s))
 
 abbrev pub left : List ℕ → Work → ℕ
 left s k = 2 * (claims s - count (setOf (k .seen)) (claims s)) + k .top
 
 -- the claim alone, in a set that was cleared
-pub gathering-start : (s t : List ℕ) (claim : ℕ) (w st : List ℕ) → WellFormed s → ((d : ℕ) → getD w d 0 ≡ 0) → length w ≡ claims s → claim < claims s → length st ≡ 4096 → Gathering s t claim (record { seen = set w claim 1; stack = set st 0 claim; top = 1 })
+pub gathering-start : (s t : List ℕ) (claim : ℕ) (w st : List ℕ) → WellFormed s → ((d : ℕ) → getD w d 0 ≡ 0) → length w ≡ claims s → claim < claims s → length st ≡ mostClaims → Gathering s t claim (record { seen = set w claim 1; stack = set st 0 claim; top = 1 })
 gathering-start s t claim w st f zeros long l deep =
     let inside : claim < length w = omega arith in
     let there = set-there w claim inside in

@@ -7,7 +7,7 @@ use Prim.Native.Nat.{ℕ, zero, suc, _≤_, _<_}
 use native.Mathlib.Omega.{arith}
 use lib.Dec.{eqb}
 use lib.ListN.{length, getD, length-map}
-use Rattle.job.specs.Job.{Job, Rule, claimOf, literalsOf}
+use Rattle.job.specs.Job.{Job, Rule, claimOf, literalsOf, mostWorkers}
 use Rattle.job.specs.Format.{jobOf}
 use Rattle.job.specs.Accepted.{WellFormed}
 use Rattle.job.specs.Encoding.{_∈_, Valid}
@@ -19,7 +19,7 @@ use Rattle.turn.specs.Turn.{lits}
 use Rattle.turn.proofs.Places.{place-low}
 
 pub record JobOk (j : Job) : Type 0 where
-  pub few : j .workers ≤ 32
+  pub few : j .workers ≤ mostWorkers
   pub literal : (c i : ℕ) → i < length (lits j c) → getD (lits j c) i 0 < j .claims
   pub question : (w n : ℕ) → n < length (askedBy j w) → questionClaim j w n < j .claims
 

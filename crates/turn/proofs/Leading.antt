@@ -50,7 +50,7 @@ module _ (j : Job) (J : JobOk j) (t : List ℕ) where
   abbrev lit : ℕ → ℕ → ℕ
   lit c k = getD (lits j c) k 0
 
-  pub leads-passed : {c d : ℕ} → Leads j t c d → At j t c d × (W.mark t d < 256)
+  pub leads-passed : {c d : ℕ} → Leads j t c d → At j t c d × (W.mark t d < W.trueMark)
   unfolding leads
   leads-passed {c} {d} l =
       let k = keep-in (λ d. not (W.complete t d)) d (map (lit c) (places c)) (l .leads-in) in
@@ -63,13 +63,13 @@ module _ (j : Job) (J : JobOk j) (t : List ℕ) where
           is = m .2;
           clear = clear-not j t c (m .0) (and-right (ltb (m .0) (W.cursor t c)) (clear j t c (m .0)) (p .1));
         },
-        nleb→lt 256 (W.mark t d) (k .1),
+        nleb→lt W.trueMark (W.mark t d) (k .1),
       )
 
   pub leads-low : (c d : ℕ) → Leads j t c d → d < j .claims
   leads-low c d l = let a = leads-passed l .0 in let h = J .literal c (a .at) (a .real) in rw (a .is) at h
 
-  pub passed-leads : {c d : ℕ} (k : ℕ) → k < W.cursor t c → k < length (lits j c) → getD (lits j c) k 0 ≡ d → (Behind j t c k → ⊥) → W.mark t d < 256 → Leads j t c d
+  pub passed-leads : {c d : ℕ} (k : ℕ) → k < W.cursor t c → k < length (lits j c) → getD (lits j c) k 0 ≡ d → (Behind j t c k → ⊥) → W.mark t d < W.trueMark → Leads j t c d
   unfolding leads
   passed-leads {c} {d} k before real is free m =
       let p : In k (places c) =
@@ -79,14 +79,14 @@ module _ (j : Job) (J : JobOk j) (t : List ℕ) where
       record {
         leads-in =
             in-keep (λ d. not (W.complete t d)) d (map (lit c) (places c)) i
-            (not-T (W.complete t d) (λ b. absurd (omega (arith, leb→le 256 (W.mark t d) b))));
+            (not-T (W.complete t d) (λ b. absurd (omega (arith, leb→le W.trueMark (W.mark t d) b))));
       }
 
   path-low : {c d : ℕ} → Reach (Leads j t) c d → c < j .claims → d < j .claims
   path-low here h = h
   path-low (step l p) h = path-low p (leads-low _ _ l)
 
-  path-open : {c d : ℕ} → Reach (Leads j t) c d → W.mark t c < 256 → W.mark t d < 256
+  path-open : {c d : ℕ} → Reach (Leads j t) c d → W.mark t c < W.trueMark → W.mark t d < W.trueMark
   path-open here m = m
   path-open (step l p) m = path-open p (leads-passed l .1)
 
@@ -95,5 +95,5 @@ module _ (j : Job) (J : JobOk j) (t : List ℕ) where
     pub in-low : d < j .claims
     in-low = path-low (in-reached j t leads-low c h d i) h
 
-    pub in-open : W.mark t c < 256 → W.mark t d < 256
+    pub in-open : W.mark t c < W.trueMark → W.mark t d < W.trueMark
     in-open m = path-open (in-reached j t leads-low c h d i) m

@@ -7,7 +7,7 @@ use native.Mathlib.Omega.{arith}
 use lib.ListN.{length, getD, set, length-set}
 use lib.Seq.{getD-set-other}
 use Rattle.base.specs.Lists.{upto, keep}
-use Rattle.table.specs.Layout.{mark}
+use Rattle.table.specs.Layout.{mark, markWord}
 use Rattle.turn.specs.Turn.{markAll}
 use Rattle.turn.proofs.Sweeps.{from, keep-next, keep-skip, keep-end}
 
@@ -29,14 +29,14 @@ module _ (f : ℕ → ℕ) (p : ℕ → Bool) (n : ℕ) (t₀ : List ℕ) where
     marks-skip e =
         record { within = omega arith; long = m .long; same = m .same ∙ ap (λ (x : List ℕ). markAll f x t) (keep-skip p c n some e); ahead = λ d h. m .ahead d (omega arith) }
 
-    pub marks-next : p c ≡ true → {v : ℕ} → v ≡ f c → Marks f p n t₀ (c + 1) (set t (8 + 3 * c) v)
+    pub marks-next : p c ≡ true → {v : ℕ} → v ≡ f c → Marks f p n t₀ (c + 1) (set t (markWord c) v)
     unfolding markAll
     marks-next e {v} h =
         record {
           within = omega arith;
           long = simp length-set (m .long);
-          same = m .same ∙ ap (λ (x : List ℕ). markAll f x t) (keep-next p c n some e) ∙ ap (λ (x : ℕ). markAll f (keep p (from (c + 1) (n - (c + 1)))) (set t (8 + 3 * c) x)) (sym h);
-          ahead = λ d g. getD-set-other t (8 + 3 * c) (8 + 3 * d) v 0 (λ q. omega arith) ∙ m .ahead d (omega arith);
+          same = m .same ∙ ap (λ (x : List ℕ). markAll f x t) (keep-next p c n some e) ∙ ap (λ (x : ℕ). markAll f (keep p (from (c + 1) (n - (c + 1)))) (set t (markWord c) x)) (sym h);
+          ahead = λ d g. getD-set-other t (markWord c) (markWord d) v 0 (λ q. omega arith) ∙ m .ahead d (omega arith);
         }
 
   pub marks-all : {c : ℕ} {t : List ℕ} → Marks f p n t₀ c t → n ≤ c → t ≡ markAll f (keep p (upto n)) t₀

@@ -13,13 +13,13 @@ use Rattle.base.specs.Choose.{pick}
 use Rattle.base.specs.Sets.{count}
 use Rattle.base.specs.Span.{span}
 use Rattle.base.proofs.Choose.{pick-true, pick-false}
-use Rattle.job.specs.Job.{Job}
+use Rattle.job.specs.Job.{Job, mostClaims}
 use Rattle.job.specs.Format.{claims, workers, rules, literals, questions, questionAt, jobOf}
 use Rattle.job.specs.Accepted.{WellFormed}
 use Rattle.job.specs.declared.Question.{Question}
 use Rattle.job.proofs.Parts.{Asked}
 use Rattle.table.specs.Questions.{askedBy, claimAsked, questionClaim}
-use Rattle.table.specs.Layout.{opened, mark, fresh, complete, answered}
+use Rattle.table.specs.Layout.{opened, mark, fresh, complete, answered, answerAt, answeredAt, awaitedAt, trueMark, valueOf}
 use Rattle.table.specs.Ranges.{InRange, marked}
 use Rattle.turn.proofs.Making.{made-as}
 use Rattle.turn.proofs.Cursors.{opened-few}
@@ -53,7 +53,7 @@ claim-asked f a (suc n) (suc k) h =
     claim-asked f (suc a) n k (omega arith) ∙ ap (λ (x : ℕ). f x .claim) e
 
 -- a fresh claim is left, so fewer than all are opened
-pub fresh-left : (s t : List ℕ) → WellFormed s → InRange (jobOf s) t → (c : ℕ) → c < claims s → mark t c ≡ 0 → opened t < 4096
+pub fresh-left : (s t : List ℕ) → WellFormed s → InRange (jobOf s) t → (c : ℕ) → c < claims s → mark t c ≡ 0 → opened t < mostClaims
 unfolding jobOf
 fresh-left s t f r c h e = omega (arith, opened-few (jobOf s) t r c h e, f .sized .claimsMost)
 
@@ -77,16 +77,16 @@ module _ (s t : List ℕ) (w n k : ℕ) (q : Question) (m : ℕ) (good : WellFor
   mark-is : mark t (questionClaim (jobOf s) w (answered (jobOf s) t w)) ≡ m
   mark-is = ap (mark t) claim-is ∙ sym marked-is
 
-  whole : 256 ≤ m → complete t (questionClaim (jobOf s) w (answered (jobOf s) t w)) ≡ true
-  whole h = le-leb 256 (mark t (questionClaim (jobOf s) w (answered (jobOf s) t w))) (omega (arith, mark-is))
+  whole : trueMark ≤ m → complete t (questionClaim (jobOf s) w (answered (jobOf s) t w)) ≡ true
+  whole h = le-leb trueMark (mark t (questionClaim (jobOf s) w (answered (jobOf s) t w))) (omega (arith, mark-is))
 
-  part : m < 256 → complete t (questionClaim (jobOf s) w (answered (jobOf s) t w)) ≡ false
-  part h = lt-leb 256 (mark t (questionClaim (jobOf s) w (answered (jobOf s) t w))) (omega (arith, mark-is))
+  part : m < trueMark → complete t (questionClaim (jobOf s) w (answered (jobOf s) t w)) ≡ false
+  part h = lt-leb trueMark (mark t (questionClaim (jobOf s) w (answered (jobOf s) t w))) (omega (arith, mark-is))
 
-  pub puts-answered : 256 ≤ m → {a b : ℕ} → a ≡ claims s → b ≡ workers s → Made (askTurn (jobOf s) t w) Answered (set (set t (8 + 3 * a + 2 * b + k) (m - 255)) (8 + 3 * a + 2 * w + 1) (n + 1))
+  pub puts-answered : trueMark ≤ m → {a b : ℕ} → a ≡ claims s → b ≡ workers s → Made (askTurn (jobOf s) t w) Answered (set (set t (answerAt a b k) (valueOf m)) (answeredAt a w) (n + 1))
   unfolding askTurn jobOf
   puts-answered h {a} {b} e f =
-      let r : ℕ → ℕ → ℕ → ℕ → ℕ → Turned = λ a b k m n. record { kind = Answered; table = set (set t (8 + 3 * a + 2 * b + k) (m - 255)) (8 + 3 * a + 2 * w + 1) (n + 1) } in
+      let r : ℕ → ℕ → ℕ → ℕ → ℕ → Turned = λ a b k m n. record { kind = Answered; table = set (set t (answerAt a b k) (valueOf m)) (answeredAt a w) (n + 1) } in
       made-as Answered _
       (pick-false _ _ _ left ∙ (pick-true _ _ _ (whole h)
       ∙ (ap (λ (x : ℕ). r (claims s) (workers s) x (mark t (questionClaim (jobOf s) w (answered (jobOf s) t w))) (answered (jobOf s) t w)) position
@@ -99,11 +99,11 @@ module _ (s t : List ℕ) (w n k : ℕ) (q : Question) (m : ℕ) (good : WellFor
       made-as Opened _
       (pick-false _ _ _ left ∙ (pick-false _ _ _ (part (omega arith)) ∙ (pick-true _ _ _ (eq-eqb _ _ (mark-is ∙ e)) ∙ ap (λ (x : ℕ). record { kind = Opened; table = openClaim t w x }) claim-is)))
 
-  pub puts-waits : (m ≡ 0 → ⊥) → m < 256 → {a : ℕ} → a ≡ claims s → Made (askTurn (jobOf s) t w) Waits (set t (8 + 3 * a + 2 * w) (q .claim + 1))
+  pub puts-waits : (m ≡ 0 → ⊥) → m < trueMark → {a : ℕ} → a ≡ claims s → Made (askTurn (jobOf s) t w) Waits (set t (awaitedAt a w) (q .claim + 1))
   unfolding askTurn jobOf
   puts-waits d h {a} e =
       made-as Waits _
-      (pick-false _ _ _ left ∙ (pick-false _ _ _ (part h) ∙ (pick-false _ _ _ (ne-eqb _ _ (λ z. d (sym mark-is ∙ z))) ∙ ap₂ (λ (x y : ℕ). record { kind = Waits; table = set t (8 + 3 * y + 2 * w) (x + 1) }) claim-is (sym e))))
+      (pick-false _ _ _ left ∙ (pick-false _ _ _ (part h) ∙ (pick-false _ _ _ (ne-eqb _ _ (λ z. d (sym mark-is ∙ z))) ∙ ap₂ (λ (x y : ℕ). record { kind = Waits; table = set t (awaitedAt y w) (x + 1) }) claim-is (sym e))))
 
 pub puts-none : (j : Job) (t : List ℕ) (w n : ℕ) → n ≡ answered j t w → Nothing ≡ nextQuestion j w n → Made (askTurn j t w) Idle t
 unfolding askTurn

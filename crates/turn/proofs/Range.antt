@@ -28,7 +28,7 @@ byte-range False = (omega arith, omega arith)
 byte-range Undefined = (omega arith, omega arith)
 
 -- a completed claim's mark
-pub mark-range : (j : Job) (t : List ℕ) (c : ℕ) → (256 ≤ completedMark j t c) × (completedMark j t c ≤ 258)
+pub mark-range : (j : Job) (t : List ℕ) (c : ℕ) → (W.trueMark ≤ completedMark j t c) × (completedMark j t c ≤ W.undefinedMark)
 unfolding completedMark
 mark-range j t c =
     let b = byte-range (verdict (exchange (knownOf (W.values j t)) (programOf j)) c) in
@@ -116,7 +116,7 @@ module _ {j : Job} (J : JobOk j) {t : List ℕ} (R : InRange j t) {w : ℕ} (sma
         (in-low j J (moved t c) d c-low (k .0), λ e. not-eq (W.mark t d) 0 (k .1) (sym (X.cursor-mark j t c (W.cursor t c + 1) d) ∙ e)))
         (λ d. (λ e. omega arith, inl (omega arith)))
 
-  answer-low : 256 ≤ W.mark t (asked j t w) → W.answered j t w < length (askedBy j w) → W.valueOf (W.mark t (asked j t w)) ≤ 3
+  answer-low : W.trueMark ≤ W.mark t (asked j t w) → W.answered j t w < length (askedBy j w) → W.valueOf (W.mark t (asked j t w)) ≤ 3
   answer-low d m =
       ⊎-elim (λ a. omega (arith, J .few)) (λ a. omega (arith, a .1)) (R .claim (asked j t w) (J .question w (W.answered j t w) m) .markIn)
 

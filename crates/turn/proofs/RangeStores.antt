@@ -21,7 +21,7 @@ use Rattle.turn.proofs.Words as X
 use Rattle.turn.proofs.Lengths.{open-length}
 
 abbrev pub GoodMark : Job → ℕ → Type 0
-GoodMark j m = (m ≤ j .workers) ⊎ ((256 ≤ m) × (m ≤ 258))
+GoodMark j m = (m ≤ j .workers) ⊎ ((W.trueMark ≤ m) × (m ≤ W.undefinedMark))
 
 module _ (j : Job) (t t′ : List ℕ) where
   marked-same : ((c : ℕ) → c < j .claims → W.fresh t′ c ≡ W.fresh t c) → marked j t′ ≡ marked j t

@@ -1,23 +1,23 @@
 -- Whether the rule of a claim's next literal has failed, as the code finds it, and the turn that skips the rest of it (02, order 5). Assumes nothing.
 --   Looking          a look back from the next literal over its rule: none of those looked at is false. Its laws: looking-start, -more, and what
 --                    is found: found-none (the claim's first literal is reached), found-other (the rule's first), found-failed (a false one)
---   pass-skipped     the turn where an earlier literal of the rule is complete and false
---   pass-clear       none is, where no end was found
+--   pass-skipped     the turn where an earlier literal of the rule is complete and false: the cursor past the rule; skip-low   its place is small
+--   pass-clear       none is, where none was found
 use Prim.Native.Nat.{ℕ, _+_, _-_, _≤_, _<_}
-use mathlib.Core.Path.{_≡_, sym, _∙_, ap, subst}
-use mathlib.Core.Bool.{true, false}
+use mathlib.Core.Path.{_≡_, sym, _∙_, ap, ap₂, subst}
+use mathlib.Core.Bool.{Bool, true, false, not}
 use mathlib.Core.List.{List}
 use mathlib.Core.Logic.{by-cases}
 use native.Mathlib.Omega.{arith}
 use native.Mathlib.Decide.{decLt}
+use borrow.Author.Tests.{not-true, not-false}
 use lib.Dec.{T}
 use lib.ListN.{length, getD, set}
-use Rattle.base.specs.Choose.{pick}
-use Rattle.base.proofs.Bools.{is-true}
-use Rattle.base.proofs.Choose.{t?, pick-yes, pick-no}
-use Rattle.job.specs.Job.{claimOf, ruleEnd}
+use Rattle.base.proofs.Bools.{is-true, is-false}
+use Rattle.base.proofs.Choose.{pick-false}
+use Rattle.job.specs.Job.{claimOf, ruleEnd, mostLiterals}
 use Rattle.job.specs.Format.{claims, rules, literals, literalByte, literalAt, jobOf}
-use Rattle.job.specs.Claims.{claimStart, boundAt, endIn}
+use Rattle.job.specs.Claims.{claimStart, boundAt, endIn, pastRule}
 use Rattle.job.specs.declared.Cursor.{Cursor}
 use Rattle.job.specs.declared.Literal.{Literal}
 use Rattle.job.proofs.Contiguous.{claim-literals}
@@ -48,7 +48,7 @@ module _ (s index t : List ℕ) (r : Ready s index t) (c : ℕ) (h : c < claims 
   pub looking-starts : {q : Cursor} {z : ℕ} → q ≡ record { at = getD index c 0 + 0; end = z } → q .at ≡ claimStart s c
   looking-starts e = omega (arith, ap (λ (x : Cursor). x .at) e, r .indexed .starts c (omega arith))
 
-  pub looking-most : {a : ℕ} → a ≡ claimStart s c → a + n < 16384
+  pub looking-most : {a : ℕ} → a ≡ claimStart s c → a + n < mostLiterals
   looking-most e = omega (arith, next-low, r .job .sized .literalsMost)
 
   pub looking-start : {a : ℕ} → a ≡ claimStart s c → Looking s index t c n a (a + n)
@@ -61,17 +61,17 @@ module _ (s index t : List ℕ) (r : Ready s index t) (c : ℕ) (h : c < claims 
         hold = λ i g m. absurd (omega arith);
       }
 
-  abbrev found : ℕ
-  found = pick (clear (jobOf s) t c n) 0 (ruleEnd c (jobOf s .rules) n)
+  abbrev found : Bool
+  found = not (clear (jobOf s) t c n)
 
-  none-found : (Behind (jobOf s) t c n → ⊥) → 0 ≡ found
-  none-found f = sym (pick-yes (clear (jobOf s) t c n) 0 (ruleEnd c (jobOf s .rules) n) (clear-of (jobOf s) t c n f))
+  none-found : (Behind (jobOf s) t c n → ⊥) → false ≡ found
+  none-found f = ap not (sym (is-true (clear (jobOf s) t c n) (clear-of (jobOf s) t c n f)))
 
   module _ {start at : ℕ} (x : Looking s index t c n start at) where
-    pub found-none : at ≤ start → 0 ≡ found
+    pub found-none : at ≤ start → false ≡ found
     found-none g = none-found (λ b. x .hold (b .at) (omega (arith, x .starts)) (b .before) (b .fails))
 
-    pub looking-low : at ≤ 16384
+    pub looking-low : at ≤ mostLiterals
     looking-low = omega (arith, x .starts, x .to, next-low, r .job .sized .literalsMost)
 
     -- one literal back
@@ -94,7 +94,7 @@ module _ (s index t : List ℕ) (r : Ready s index t) (c : ℕ) (h : c < claims 
       back : at - 1 + 1 ≡ at
       back = omega arith
 
-      pub found-other : boundAt index at ≡ true → 0 ≡ found
+      pub found-other : boundAt index at ≡ true → false ≡ found
       found-other d =
           let e = end-here-in index (at - 1) (omega (arith, looking-low)) (ap (boundAt index) back ∙ d) in
           none-found
@@ -117,14 +117,12 @@ module _ (s index t : List ℕ) (r : Ready s index t) (c : ℕ) (h : c < claims 
               let y : claimOf (literalAt s (rules s) (at - 1)) < claims s = r .job .literal (at - 1) (omega (arith, x .starts, x .to, next-low)) in
               omega (arith, room s t (r .table), ap (λ (v : ℕ). claimOf (literalAt s v (at - 1))) q)
 
-          pub found-failed : T (failed t (literalAt s m (at - 1))) → {e : ℕ} → e ≡ endIn index (start + n) → (start ≤ e) × (e - start ≡ found)
-          found-failed f {e} z =
+          pub found-failed : T (failed t (literalAt s m (at - 1))) → true ≡ found
+          found-failed f =
               let y : T (failed t (litAt (jobOf s) c i)) = subst (λ (v : Literal). T (failed t v)) (ap (λ (v : ℕ). literalAt s v (at - 1)) q ∙ lit-at) f in
               let b : Behind (jobOf s) t c n =
               record { at = i; before = before; fails = y; within = omega (arith, end-at, same-back, end-more c (jobOf s .rules) n (omega (arith, lits-length (jobOf s) c))) } in
-              let k = pick-no (clear (jobOf s) t c n) 0 (ruleEnd c (jobOf s .rules) n) (λ v. clear-not (jobOf s) t c n v b) in
-              let u = z ∙ (ap (λ (v : ℕ). endIn index (v + n)) (x .starts) ∙ end-is s index t (r .job) (r .indexed) c n l) in
-              (omega (arith, x .starts), omega (arith, x .starts))
+              ap not (sym (is-false (clear (jobOf s) t c n) (λ v. clear-not (jobOf s) t c n v b)))
 
           pub looking-more : (T (failed t (literalAt s m (at - 1))) → ⊥) → Looking s index t c n start (at - 1)
           looking-more f =
@@ -141,34 +139,32 @@ module _ (s index t : List ℕ) (r : Ready s index t) (c : ℕ) (h : c < claims 
                     (λ o. x .hold k (omega arith) b y);
               }
 
-pub lits-few : (s index t : List ℕ) → Ready s index t → (c : ℕ) → c < claims s → length (lits (jobOf s) c) ≤ 16384
-lits-few s index t r c h =
-    let p = claim-literals s (r .job) c in omega (arith, p .count, p .within, p .ordered, lits-length (jobOf s) c, r .job .sized .literalsMost)
+-- the turn, by what was found: the cursor moved to the rule's end
+module _ (s index t : List ℕ) (r : Ready s index t) (w c : ℕ) (h : c < claims s) (l : cursor t c < length (lits (jobOf s) c)) {p : ℕ} (e : p ≡ cursor t c) {o : Bool} (q : o ≡ not (clear (jobOf s) t c p)) where
+  here-is : o ≡ not (clear (jobOf s) t c (cursor t c))
+  here-is = q ∙ ap (λ (x : ℕ). not (clear (jobOf s) t c x)) e
 
--- what the turn finds: the end o of the rule, or 0
-module _ (s t : List ℕ) (w c : ℕ) (l : cursor t c < length (lits (jobOf s) c)) {p : ℕ} (e : p ≡ cursor t c) {o : ℕ} (q : o ≡ pick (clear (jobOf s) t c p) 0 (ruleEnd c (jobOf s .rules) p)) where
-  over-is : o ≡ pick (clear (jobOf s) t c (cursor t c)) 0 (ruleEnd c (jobOf s .rules) (cursor t c))
-  over-is = q ∙ ap (λ (x : ℕ). pick (clear (jobOf s) t c x) 0 (ruleEnd c (jobOf s .rules) x)) e
+  pub pass-clear : o ≡ false → clear (jobOf s) t c (cursor t c) ≡ true
+  pass-clear g = not-false _ (sym here-is ∙ g)
 
-  pub skip-most : o ≤ length (lits (jobOf s) c)
-  skip-most =
-      by-cases (t? (clear (jobOf s) t c (cursor t c)))
-      (λ h. omega (arith, over-is, pick-yes (clear (jobOf s) t c (cursor t c)) 0 (ruleEnd c (jobOf s .rules) (cursor t c)) h))
-      (λ h.
-      omega
-      (arith, over-is, pick-no (clear (jobOf s) t c (cursor t c)) 0 (ruleEnd c (jobOf s .rules) (cursor t c)) h, end-most c (jobOf s .rules) (cursor t c) (omega (arith, lits-length (jobOf s) c)), lits-length (jobOf s) c))
+  -- the cursor over c's literals that has passed p of them, past its literal's rule
+  module _ {k u : Cursor} (f : k ≡ record { at = getD index c 0 + p; end = getD index (c + 1) 0 }) (g : u ≡ pastRule index k) where
+    skip-at : u .at ≡ claimStart s c + ruleEnd c (jobOf s .rules) (cursor t c)
+    skip-at =
+        ap (λ (x : Cursor). x .at) g
+        ∙ (ap (λ (x : Cursor). endIn index (x .at)) f
+        ∙ (ap₂ (λ (x y : ℕ). endIn index (x + y)) (r .indexed .starts c (omega arith)) e ∙ end-is s index t (r .job) (r .indexed) c (cursor t c) l))
 
-  pub pass-skipped : 0 < o → {u : List ℕ} → u ≡ set t (cursorWord c) o → Made (passTurn (jobOf s) t w c) Passed u
-  unfolding passTurn
-  pass-skipped g {u} k =
-      let n : T (clear (jobOf s) t c (cursor t c)) → ⊥ = λ h. omega (arith, over-is, pick-yes (clear (jobOf s) t c (cursor t c)) 0 (ruleEnd c (jobOf s .rules) (cursor t c)) h) in
-      let z : o ≡ ruleEnd c (jobOf s .rules) (cursor t c) = over-is ∙ pick-no (clear (jobOf s) t c (cursor t c)) 0 (ruleEnd c (jobOf s .rules) (cursor t c)) n in
-      made-from (k ∙ ap (set t (cursorWord c)) z) (made-as _ _ (pick-no (clear (jobOf s) t c (cursor t c)) _ _ n))
+    pub skip-low : (getD index c 0 ≤ u .at) × (u .at < 4294967296)
+    skip-low =
+        let n = claim-literals s (r .job) c in
+        let m = end-most c (jobOf s .rules) (cursor t c) (omega (arith, lits-length (jobOf s) c)) in
+        let a = r .indexed .starts c (omega arith) in
+        (omega (arith, skip-at), omega (arith, skip-at, n .count, n .within, n .ordered, r .job .sized .literalsMost))
 
-  pub pass-clear : o ≤ 0 → clear (jobOf s) t c (cursor t c) ≡ true
-  pass-clear g =
-      by-cases (t? (clear (jobOf s) t c (cursor t c))) (λ h. is-true (clear (jobOf s) t c (cursor t c)) h)
-      (λ h.
-      absurd
-      (omega
-      (arith, over-is, pick-no (clear (jobOf s) t c (cursor t c)) 0 (ruleEnd c (jobOf s .rules) (cursor t c)) h, end-more c (jobOf s .rules) (cursor t c) (omega (arith, lits-length (jobOf s) c)))))
+    pub pass-skipped : o ≡ true → {y : List ℕ} → y ≡ set t (cursorWord c) (u .at - getD index c 0) → Made (passTurn (jobOf s) t w c) Passed y
+    unfolding passTurn
+    pass-skipped d {y} z =
+        let n : clear (jobOf s) t c (cursor t c) ≡ false = not-true _ (sym here-is ∙ d) in
+        let m : u .at - getD index c 0 ≡ ruleEnd c (jobOf s .rules) (cursor t c) = omega (arith, skip-at, r .indexed .starts c (omega arith)) in
+        made-from (z ∙ ap (set t (cursorWord c)) m) (made-as _ _ (pick-false _ _ _ n))

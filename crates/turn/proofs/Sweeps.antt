@@ -4,7 +4,7 @@ use mathlib.Core.Path.{_≡_, refl, sym, _∙_, ap, ap₂}
 use mathlib.Core.Bool.{Bool, true, false, _&&_}
 use mathlib.Core.List.{List, [], _∷_}
 use native.Mathlib.Omega.{arith}
-use lib.Dec.{eqb, ltb}
+use lib.Dec.{leb, eqb, ltb}
 use lib.ListN.{length, getD}
 use Rattle.job.specs.declared.Cursor.{Cursor}
 use Rattle.base.specs.Choose.{pick}
@@ -13,11 +13,11 @@ use Rattle.base.specs.Lists.{upto, keep, every}
 use Rattle.base.proofs.Bools.{and-on, and-off}
 use Rattle.base.proofs.Lists.{keep-keep}
 use Rattle.base.proofs.Span.{span-one, span-none}
-use Rattle.model.specs.Passes.{setOf}
+use Rattle.base.specs.Sets.{setOf}
 use Rattle.table.specs.Layout.{number, cursor, mark, owned}
 use borrow.Author.Tests.{eq-eqb, ne-eqb}
 use Rattle.turn.specs.Turn.{newest}
-use Rattle.turn.specs.Ready.{members, sizeIn, passedIn}
+use Rattle.turn.specs.Ready.{members, passedIn}
 
 -- the claims from c on, of n
 abbrev pub from : ℕ → ℕ → List ℕ
@@ -132,16 +132,9 @@ pub keep-members : (q : ℕ → Bool) (seen : List ℕ) → keep q (members seen
 unfolding members
 keep-members q seen = keep-keep q (setOf seen) (upto (length seen))
 
--- a claim's literals, by a cursor over all of them
-pub cursor-size : (index : List ℕ) (c : ℕ) {all : Cursor} → all ≡ record { at = getD index c 0 + 0; end = getD index (c + 1) 0 } → all .end - all .at ≡ sizeIn index c
-cursor-size index c {all} e =
-    let a : all .at ≡ getD index c 0 + 0 = ap (λ (x : Cursor). x .at) e in
-    let b : all .end ≡ getD index (c + 1) 0 = ap (λ (x : Cursor). x .end) e in
-    omega arith
-
--- the test of a claim that has passed all its literals
-pub passed-is : (index t : List ℕ) (c : ℕ) {x y : ℕ} → x ≡ cursor t c → y ≡ sizeIn index c → eqb x y ≡ passedIn index t c
-passed-is index t c {x} {y} e f = ap₂ eqb e f
+-- the test of a claim that has passed all its literals: its cursor is at the end
+pub passed-is : (index t : List ℕ) (c : ℕ) {p : ℕ} {k : Cursor} → p ≡ cursor t c → k ≡ record { at = getD index c 0 + p; end = getD index (c + 1) 0 } → {b : Bool} → b ≡ leb (k .end) (k .at) → b ≡ passedIn index t c
+passed-is index t c e f h = h ∙ (ap (λ (k : Cursor). leb (k .end) (k .at)) f ∙ ap (λ (x : ℕ). leb (getD index (c + 1) 0) (getD index c 0 + x)) e)
 
 -- tests that the code makes one after the other
 -- a claim's owner, by the mark that was read

@@ -27,8 +27,8 @@ use Rattle.job.specs.declared.Cursor.{Cursor}
 use Rattle.job.proofs.Contiguous.{claim-literals}
 use Rattle.job.proofs.RuleEnds.{end-same, end-more}
 use Rattle.job.proofs.IndexEnds.{end-in}
-use Rattle.table.specs.Layout.{mark}
-use Rattle.turn.specs.Turn.{lits, litAt, falseMark, failed}
+use Rattle.table.specs.Layout.{mark, trueMark}
+use Rattle.turn.specs.Turn.{lits, litAt, failingMark, failed}
 use Rattle.turn.specs.Gather.{onward, metFrom, met}
 use Rattle.turn.proofs.Jobs.{lits-length}
 use Rattle.turn.proofs.Behind.{failed-done, claim-lit, Behind}
@@ -216,12 +216,12 @@ module _ (s index t : List ℕ) (w : WellFormed s) (x : Index s index) (c : ℕ)
       (λ d. on (i + 1) (omega arith) (omega (arith, q .from, m)) (over-one i p low d)))))
 
 -- by the tests that the code makes
-pub failed-is : (t : List ℕ) (l : Literal) {b m f : ℕ} → b ≡ claimOf l → m ≡ mark t b → f ≡ falseMark l → eqb m f ≡ failed t l
+pub failed-is : (t : List ℕ) (l : Literal) {b m f : ℕ} → b ≡ claimOf l → m ≡ mark t b → f ≡ failingMark l → eqb m f ≡ failed t l
 unfolding failed
 failed-is t l e q r = ap₂ eqb (q ∙ ap (mark t) e) r
 
 -- a claim that isn't complete makes no literal false
-pub failed-low : (t : List ℕ) (l : Literal) {b m : ℕ} → b ≡ claimOf l → m ≡ mark t b → m < 256 → false ≡ failed t l
+pub failed-low : (t : List ℕ) (l : Literal) {b m : ℕ} → b ≡ claimOf l → m ≡ mark t b → m < trueMark → false ≡ failed t l
 failed-low t l e q h = same false (failed t l) (λ z. absurd z) (λ z. absurd (omega (arith, failed-done t l z, ap (mark t) e)))
 
 module _ (index t : List ℕ) (l : Literal) (c : Cursor) {r : Bool} (e : r ≡ failed t l) {d : Cursor} where

@@ -10,7 +10,7 @@ use lib.ListN.{set}
 use Rattle.base.specs.Lists.{upto, keep}
 use Rattle.base.proofs.Choose.{pick-true, pick-false}
 use Rattle.job.specs.Format.{claims, jobOf}
-use Rattle.table.specs.Layout.{mark, awaited, owned}
+use Rattle.table.specs.Layout.{mark, awaited, owned, awaitedAt, trueMark}
 use Rattle.turn.specs.Turn.{Turned, newest, askTurn, workTurn, turn}
 use Rattle.turn.specs.Ready.{Made}
 use Rattle.turn.specs.declared.Kind.{Kind}
@@ -29,15 +29,15 @@ module _ (s t : List ℕ) (w : ℕ) {a : ℕ} (awaits : a ≡ awaited (jobOf s) 
     mark-is : mark t (awaited (jobOf s) t w - 1) ≡ m
     mark-is = ap (λ (x : ℕ). mark t (x - 1)) (sym awaits) ∙ sym marked
 
-    pub wakes : 256 ≤ m → {n : ℕ} → n ≡ claims s → Made (turn (jobOf s) t w) Woke (set t (8 + 3 * n + 2 * w) 0)
+    pub wakes : trueMark ≤ m → {n : ℕ} → n ≡ claims s → Made (turn (jobOf s) t w) Woke (set t (awaitedAt n w) 0)
     unfolding turn jobOf
     wakes h {n} e =
         made-as Woke _
-        (pick-false _ _ _ waiting ∙ (pick-true _ _ _ (le-leb 256 (mark t (awaited (jobOf s) t w - 1)) (omega (arith, mark-is))) ∙ ap (λ (x : ℕ). record { kind = Woke; table = set t (8 + 3 * x + 2 * w) 0 }) (sym e)))
+        (pick-false _ _ _ waiting ∙ (pick-true _ _ _ (le-leb trueMark (mark t (awaited (jobOf s) t w - 1)) (omega (arith, mark-is))) ∙ ap (λ (x : ℕ). record { kind = Woke; table = set t (awaitedAt x w) 0 }) (sym e)))
 
-    pub waits-on : m < 256 → Made (turn (jobOf s) t w) Idle t
+    pub waits-on : m < trueMark → Made (turn (jobOf s) t w) Idle t
     unfolding turn
-    waits-on h = made-as Idle t (pick-false _ _ _ waiting ∙ pick-false _ _ _ (lt-leb 256 (mark t (awaited (jobOf s) t w - 1)) (omega (arith, mark-is))))
+    waits-on h = made-as Idle t (pick-false _ _ _ waiting ∙ pick-false _ _ _ (lt-leb trueMark (mark t (awaited (jobOf s) t w - 1)) (omega (arith, mark-is))))
 
   -- w awaits nothing, and n - 1 is its newest open claim
   module _ (free : a ≡ 0) {n c : ℕ} (count-is : c ≡ claims s) (newest-is : n ≡ newest t (keep (owned t w) (upto c))) where

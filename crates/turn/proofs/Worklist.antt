@@ -24,8 +24,8 @@ use Rattle.base.proofs.Sets.{count-le, count-less}
 use Rattle.job.specs.Job.{claimOf}
 use Rattle.job.specs.Format.{literalByte, literalAt}
 use Rattle.job.specs.declared.Cursor.{Cursor}
-use Rattle.model.specs.Passes.{setOf}
-use Rattle.table.specs.Layout.{mark, complete}
+use Rattle.base.specs.Sets.{setOf}
+use Rattle.table.specs.Layout.{mark, complete, trueMark}
 use Rattle.turn.specs.Gather.{Work, visit, visits, onward, met, Fits, Room}
 use Rattle.turn.proofs.Walk.{onward-more, onward-end, met-none, met-first}
 
@@ -167,18 +167,18 @@ module _ (t : List ℕ) (n : ℕ) where
 
 -- one claim met, by the tests that the code makes
 module _ (t : List ℕ) (b : ℕ) (k : Work) (m : ℕ) (read : m ≡ mark t b) where
-  pub visit-complete : 256 ≤ m → visit t b k ≡ k
+  pub visit-complete : trueMark ≤ m → visit t b k ≡ k
   unfolding visit
-  visit-complete h = pick-yes (complete t b) _ _ (is _ (le-leb 256 (mark t b) (omega arith)))
+  visit-complete h = pick-yes (complete t b) _ _ (is _ (le-leb trueMark (mark t b) (omega arith)))
 
-  module _ (low : m < 256) where
+  module _ (low : m < trueMark) where
     pub visit-there : setOf (k .seen) b ≡ true → visit t b k ≡ k
     unfolding visit
-    visit-there e = pick-no (complete t b) _ _ (is-not _ (lt-leb 256 (mark t b) (omega arith))) ∙ pick-yes (setOf (k .seen) b) _ _ (is _ e)
+    visit-there e = pick-no (complete t b) _ _ (is-not _ (lt-leb trueMark (mark t b) (omega arith))) ∙ pick-yes (setOf (k .seen) b) _ _ (is _ e)
 
     pub visit-push : setOf (k .seen) b ≡ false → visit t b k ≡ record { seen = set (k .seen) b 1; stack = set (k .stack) (k .top) b; top = k .top + 1 }
     unfolding visit
-    visit-push e = pick-no (complete t b) _ _ (is-not _ (lt-leb 256 (mark t b) (omega arith))) ∙ pick-no (setOf (k .seen) b) _ _ (is-not _ e)
+    visit-push e = pick-no (complete t b) _ _ (is-not _ (lt-leb trueMark (mark t b) (omega arith))) ∙ pick-no (setOf (k .seen) b) _ _ (is-not _ e)
 
 -- where a claim was not met, there is room on the stack
 pub push-room : (n : ℕ) (k : Work) (b : ℕ) → Fits n k → b < n → setOf (k .seen) b ≡ false → (k .top < length (k .stack)) × (k .top < n)

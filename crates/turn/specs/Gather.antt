@@ -14,13 +14,13 @@ use lib.ListN.{length, set}
 use lib.Dec.{leb}
 use Rattle.base.specs.Choose.{pick}
 use Rattle.base.specs.Sets.{count}
-use Rattle.job.specs.Job.{claimOf}
+use Rattle.job.specs.Job.{claimOf, mostClaims, mostLiterals}
 use Rattle.job.specs.Format.{literalByte, literalAt}
 use Rattle.job.specs.Claims.{endIn, moved, pastRule}
 use Rattle.job.specs.declared.Literal.{Literal}
 use Rattle.job.specs.declared.Cursor.{Cursor}
-use Rattle.model.specs.Passes.{setOf}
-use Rattle.table.specs.Layout.{complete}
+use Rattle.base.specs.Sets.{setOf}
+use Rattle.table.specs.Layout.{complete, workersFrom}
 use Rattle.turn.specs.Turn.{failed}
 
 pub record Work : Type 0 where
@@ -54,15 +54,15 @@ abbrev pub met : List ℕ → ℕ → List ℕ → List ℕ → Cursor → List 
 met s m index t c = metFrom s m index t (c .end - c .at) c
 
 pub record Fits (n : ℕ) (k : Work) : Type 0 where
-  pub few : n ≤ 4096
+  pub few : n ≤ mostClaims
   pub long : length (k .seen) ≡ n
   pub wide : n ≤ length (k .stack)
   pub most : k .top ≤ count (setOf (k .seen)) n
 
 pub record Room (s : List ℕ) (m : ℕ) (index t : List ℕ) (n : ℕ) (c : Cursor) (k : Work) : Type 0 where
   pub bytes : literalByte m (c .end) ≤ length s
-  pub most : c .end ≤ 16384
+  pub most : c .end ≤ mostLiterals
   pub ends : (i : ℕ) → c .at ≤ i → i < c .end → i < endIn index i
   pub below : (i : ℕ) → c .at ≤ i → i < c .end → claimOf (literalAt s m i) < n
-  pub words : 8 + 3 * n ≤ length t
+  pub words : workersFrom n ≤ length t
   pub fits : Fits n k

@@ -1,15 +1,14 @@
 -- What the functions below the calls are lent once the checks have passed, and how they hold sets of claims.
 --   Ready s index t      an accepted job s, its index of claims, and a table t in range
---   sizeIn index c       how many literals claim c has, by the index
---   passedIn index t c   c has passed all its literals, by the index
+--   passedIn index t c   c has passed all its literals, by the index: its cursor is at the end
 --   members seen         the claims of a set held as a byte a claim, in rising order
 --   Made r kind t        a turn was made as the definition r says: its kind, and the table at exit
 --   nextQuestion j w n   where w's question n stands in the file, if it has one
-use Prim.Native.Nat.{ℕ, _+_, _-_}
+use Prim.Native.Nat.{ℕ, _+_}
 use mathlib.Core.Bool.{Bool}
 use mathlib.Core.List.{List}
 use mathlib.Core.Path.{_≡_}
-use lib.Dec.{eqb, ltb}
+use lib.Dec.{leb, ltb}
 use lib.ListN.{length, getD}
 use Rattle.base.specs.Choose.{pick}
 use Rattle.base.specs.Lists.{upto, keep}
@@ -17,7 +16,7 @@ use Rattle.job.specs.Job.{Job}
 use Rattle.job.specs.Format.{jobOf}
 use Rattle.job.specs.Accepted.{WellFormed}
 use Rattle.job.specs.Claims.{Index}
-use Rattle.model.specs.Passes.{setOf}
+use Rattle.base.specs.Sets.{setOf}
 use Rattle.table.specs.Questions.{askedBy}
 use Rattle.table.specs.Layout.{cursor}
 use Rattle.table.specs.Ranges.{InRange}
@@ -35,11 +34,8 @@ pub record Made (r : Turned) (kind : Kind) (t : List ℕ) : Type 0 where
   pub kindIs : kind ≡ r .kind
   pub tableIs : t ≡ r .table
 
-abbrev pub sizeIn : List ℕ → ℕ → ℕ
-sizeIn index c = getD index (c + 1) 0 - getD index c 0
-
 abbrev pub passedIn : List ℕ → List ℕ → ℕ → Bool
-passedIn index t c = eqb (cursor t c) (sizeIn index c)
+passedIn index t c = leb (getD index (c + 1) 0) (getD index c 0 + cursor t c)
 
 unfoldable pub members : List ℕ → List ℕ
 members seen = keep (setOf seen) (upto (length seen))

@@ -3,7 +3,7 @@
 --   kindNumber k      01's number of a kind
 --   lits j c          the claims of c's literals, over its rules in file order
 --   litAt j c k       c's literal k, from 0
---   falseMark l       the mark of its claim that makes literal l false; failed t l   literal l is complete and false
+--   failingMark l       the mark of its claim that makes literal l false; failed t l   literal l is complete and false
 --   clear j t c k     no literal before c's literal k, of its rule, is complete and false (such a one makes the rule's body false)
 --   skipEnd j t c     where the rule of c's next literal ends among c's literals
 --   leading j t c k   c has passed its literal k, and it stands behind no false one
@@ -29,7 +29,7 @@ use Rattle.job.specs.declared.Literal.{Literal}
 use Rattle.job.specs.declared.Literal.the-variants.{Plain, Negated}
 use Rattle.semantics.specs.Model.{programOf, verdict, exchange, knownOf}
 use Rattle.table.specs.Questions.{askedBy, questionClaim}
-use Rattle.table.specs.Layout.{opened, markWord, cursorWord, numberWord, mark, cursor, number, awaitedWord, answeredWord, awaited, answered, answerWord, fresh, owned, complete, valueOf, markOf, values}
+use Rattle.table.specs.Layout.{opened, markWord, cursorWord, numberWord, mark, cursor, number, awaitedWord, answeredWord, awaited, answered, answerWord, fresh, owned, complete, valueOf, markOf, values, falseMark, trueMark}
 use Rattle.turn.specs.declared.Kind.{Kind}
 use Rattle.turn.specs.declared.Kind.the-variants.{Idle, Woke, Opened, Waits, Took, Passed, Completed, Answered}
 
@@ -55,12 +55,12 @@ unfoldable pub litAt : Job → ℕ → ℕ → Literal
 litAt j c k = getD (literalsOf c (j .rules)) k (Plain 0)
 
 -- a plain literal is false where its claim is false, a negated one where it is true
-abbrev pub falseMark : Literal → ℕ
-falseMark (Plain c) = 257
-falseMark (Negated c) = 256
+abbrev pub failingMark : Literal → ℕ
+failingMark (Plain c) = falseMark
+failingMark (Negated c) = trueMark
 
 unfoldable pub failed : List ℕ → Literal → Bool
-failed t l = eqb (mark t (claimOf l)) (falseMark l)
+failed t l = eqb (mark t (claimOf l)) (failingMark l)
 
 -- (02, order 5) "an earlier literal of that rule is complete and false"
 unfoldable pub clear : Job → List ℕ → ℕ → ℕ → Bool
@@ -122,7 +122,7 @@ meets (suc n) j t w v =
     pick (eqb v w) true
     (let a = awaited j t v in
     let m = mark t (a - 1) in
-    pick (eqb a 0) false (pick (eqb m 0) false (pick (leb 256 m) false (meets n j t w (m - 1)))))
+    pick (eqb a 0) false (pick (eqb m 0) false (pick (leb trueMark m) false (meets n j t w (m - 1)))))
 
 -- "w owns nothing open: no question left, idle. Otherwise its next question's claim is complete, and the value is stored and counted,
 -- answered; or fresh and becomes open to w, opened; or another's, and w awaits it, waits."

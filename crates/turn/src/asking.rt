@@ -10,9 +10,10 @@ ghost use Rattle.turn.specs.Turn.{askTurn};
 ghost use Rattle.turn.specs.Ready.{Made, nextQuestion};
 use crate::Kind;
 use crate::Next;
+use crate::marks;
 use crate::questions;
-use crate::stores;
 use job::format;
+use table::stores;
 use table::words;
 
 // Worker w puts its question n, which stands at position k.
@@ -25,20 +26,17 @@ fn ask(job: &[u8], table: &mut [u32], w: usize, n: usize, k: usize) -> Kind
     let question = format::question_at(job, format::rule_count(job), format::literal_count(job), k);
     let claim = question.claim;
     let mark = words::mark_at(table, claim);
-    if 256 <= mark {
-        stores::store_word(
-            table,
-            8 + 3 * claims + 2 * format::worker_count(job) + k,
-            mark - 255,
-        );
-        stores::store_word(table, 8 + 3 * claims + 2 * w + 1, n + 1);
+    if words::is_complete(mark) {
+        let workers = format::worker_count(job);
+        stores::set_answer(table, claims, workers, k, words::value_of(mark));
+        stores::set_answered(table, claims, w, n + 1);
         return Kind::Answered;
     }
     if mark == 0 {
-        stores::open_claim(table, w, claim);
+        marks::open_claim(table, w, claim);
         return Kind::Opened;
     }
-    stores::store_word(table, 8 + 3 * claims + 2 * w, claim + 1);
+    stores::set_awaited(table, claims, w, claim + 1);
     Kind::Waits
 }
 

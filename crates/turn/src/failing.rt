@@ -1,12 +1,12 @@
 // Literals that stand behind a complete false one of their rule (02, order 5). The contracts cite specs/Gather and `clear` of specs/Turn.
 ghost use mathlib.Core.Path.{_≡_};
+ghost use mathlib.Core.Bool.{not};
 ghost use Prim.Native.Nat.{_≤_, _<_};
 ghost use lib.ListN.{length};
-ghost use Rattle.base.specs.Choose.{pick};
-ghost use Rattle.job.specs.Job.{claimOf, ruleEnd};
+ghost use Rattle.job.specs.Job.{claimOf, mostLiterals};
 ghost use Rattle.job.specs.Format.{claims as claimsOf, jobOf};
 ghost use Rattle.table.specs.Layout.{markWord};
-ghost use Rattle.turn.specs.Turn.{lits, falseMark, failed as failedIn, clear};
+ghost use Rattle.turn.specs.Turn.{lits, failingMark, failed as failedIn, clear};
 ghost use Rattle.turn.specs.Ready.{Ready};
 ghost use Rattle.turn.specs.Gather.{onward};
 use job::ClaimIndex;
@@ -17,8 +17,8 @@ use job::format;
 use table::words;
 
 // The mark of its claim that makes a literal false.
-fn false_mark(literal: Literal) -> usize
-    ensures { λ r. ⌜ r ≡ falseMark literal ⌝ }
+fn failing_mark(literal: Literal) -> usize
+    ensures { λ r. ⌜ r ≡ failingMark literal ⌝ }
 {
     match literal {
         Literal::Plain(claim) => words::FALSE_MARK,
@@ -35,12 +35,12 @@ fn failed(table: &[u32], literal: Literal) -> bool
     if mark < words::TRUE_MARK {
         return false;
     }
-    mark == false_mark(literal)
+    mark == failing_mark(literal)
 }
 
 // The cursor past this literal, its current one, or past its rule where the literal is complete and false: what stands behind leads nowhere.
 pub fn moved_on(index: &ClaimIndex, table: &[u32], literal: Literal, cursor: Cursor) -> Cursor
-    requires { ⌜ (markWord (claimOf literal) < length (now table)) × (cursor .at < cursor .end) × (cursor .end ≤ 16384) ⌝ }
+    requires { ⌜ (markWord (claimOf literal) < length (now table)) × (cursor .at < cursor .end) × (cursor .end ≤ mostLiterals) ⌝ }
     ensures { λ r. ⌜ r ≡ onward (now (index .entry)) (now (table .entry)) literal cursor ⌝ }
 {
     if failed(table, literal) {
@@ -49,25 +49,24 @@ pub fn moved_on(index: &ClaimIndex, table: &[u32], literal: Literal, cursor: Cur
     cursor.advanced()
 }
 
-// Where the rule of claim c's next literal ends among c's literals, if an earlier literal of that rule is complete and false; else 0.
-// It looks back from the next literal to where its rule starts, and no further.
-pub fn rule_over(job: &[u8], index: &ClaimIndex, table: &[u32], c: usize, passed: usize) -> usize
+// Whether an earlier literal of the rule of claim c's next literal is complete and false. It looks back from the next literal to where its
+// rule starts, and no further.
+pub fn rule_failed(job: &[u8], index: &ClaimIndex, table: &[u32], c: usize, passed: usize) -> bool
     requires { ⌜ Ready (now job) (now index) (now table) ⌝ }
     requires { ⌜ (c < claimsOf (now job)) × (passed < length (lits (jobOf (now job)) c)) ⌝ }
-    ensures { λ r. ⌜ r ≡ pick (clear (jobOf (now (job .entry))) (now (table .entry)) c passed) 0 (ruleEnd c (jobOf (now (job .entry)) .rules) passed) ⌝ }
+    ensures { λ r. ⌜ r ≡ not (clear (jobOf (now (job .entry))) (now (table .entry)) c passed) ⌝ }
 {
     let rules = format::rule_count(job);
     let start = Cursor::over(index, c, 0).at;
-    let next = start + passed;
-    let mut at = next;
+    let mut at = start + passed;
     while start < at {
         if claims::bounded(index, at) {
-            return 0;
+            return false;
         }
         at -= 1;
         if failed(table, format::literal_at(job, rules, at)) {
-            return claims::rule_end(index, next) - start;
+            return true;
         }
     }
-    0
+    false
 }

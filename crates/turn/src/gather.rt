@@ -3,42 +3,38 @@ ghost use mathlib.Core.Path.{_≡_};
 ghost use Prim.Native.Nat.{ℕ, _+_, _*_, _≤_, _<_};
 ghost use lib.ListN.{length, getD};
 ghost use Rattle.base.specs.Lists.{isIn};
-ghost use Rattle.job.specs.Bytes.{Number};
+ghost use Rattle.job.specs.Job.{mostClaims, mostLiterals};
 ghost use Rattle.job.specs.Format.{claims, jobOf};
-ghost use Rattle.model.specs.Passes.{setOf};
-ghost use Rattle.table.specs.Layout.{cursor as passedBy};
+ghost use Rattle.base.specs.Sets.{setOf};
+ghost use Rattle.table.specs.Layout.{numberWord, workersFrom, cursor as passedBy};
 ghost use Rattle.turn.specs.Turn.{reached};
 ghost use Rattle.turn.specs.Ready.{Ready};
 ghost use Rattle.turn.specs.Gather.{met, Fits, Room, visit as visitOf, visits};
 use crate::failing;
+use base::byte_sets;
+use base::wide;
 use job::ClaimIndex;
 use job::Cursor;
+use job::checks::MOST_CLAIMS;
 use job::format;
-use model::sets;
 use table::words;
 
 // Room for the claims to be looked at.
-fn no_claims() -> [u32; 4096]
-    ensures { λ r. ⌜ length r ≡ 4096 ⌝ }
+fn no_claims() -> [u32; MOST_CLAIMS]
+    ensures { λ r. ⌜ length r ≡ mostClaims ⌝ }
 {
-    [0u32; 4096]
-}
-
-fn wide(x: u32) -> usize
-    ensures { λ r. ⌜ Number r x 4294967296 ⌝ }
-{
-    x as usize
+    [0u32; MOST_CLAIMS]
 }
 
 // Meets claim b: marks and pushes it, unless it is complete or was met before. Answers the stack's new top.
 fn visit(table: &[u32], b: usize, seen: &mut [u8], stack: &mut [u32], top: usize) -> usize
-    requires { ⌜ (b < length (now seen)) × (8 + 3 * length (now seen) ≤ length (now table)) × Fits (length (now seen)) (record { seen = now seen; stack = now stack; top = top }) ⌝ }
+    requires { ⌜ (b < length (now seen)) × (workersFrom (length (now seen)) ≤ length (now table)) × Fits (length (now seen)) (record { seen = now seen; stack = now stack; top = top }) ⌝ }
     ensures { λ r. ⌜ visitOf (now (table .entry)) b (record { seen = now (seen .entry); stack = now (stack .entry); top = top }) ≡ record { seen = now (seen .exit); stack = now (stack .exit); top = r } ⌝ }
 {
-    if 256 <= words::mark_at(table, b) {
+    if words::is_complete(words::mark_at(table, b)) {
         return top;
     }
-    if sets::member(seen, b) {
+    if byte_sets::member(seen, b) {
         return top;
     }
     seen[b] = 1;
@@ -72,7 +68,7 @@ fn expand(
 
 // The cursor over the literals that claim c has passed.
 fn passed_over(index: &ClaimIndex, table: &[u32], c: usize) -> Cursor
-    requires { ⌜ (c < 4096) × (10 + 3 * c < length (now table)) × (getD (now index) c 0 ≤ 16384) ⌝ }
+    requires { ⌜ (c < mostClaims) × (numberWord c < length (now table)) × (getD (now index) c 0 ≤ mostLiterals) ⌝ }
     ensures { λ r. ⌜ r ≡ record { at = getD (now (index .entry)) c 0; end = getD (now (index .entry)) c 0 + passedBy (now (table .entry)) c } ⌝ }
 {
     let start = Cursor::over(index, c, 0).at;
@@ -90,12 +86,12 @@ pub fn gather(job: &[u8], index: &ClaimIndex, table: &[u32], claim: usize, seen:
 {
     let rules = format::rule_count(job);
     let mut stack = no_claims();
-    sets::clear(seen);
+    byte_sets::clear(seen);
     seen[claim] = 1;
     stack[0] = claim as u32;
     let mut top: usize = 1;
     while 0 < top {
-        let from = passed_over(index, table, wide(stack[top - 1]));
+        let from = passed_over(index, table, wide::word(stack[top - 1]));
         top = expand(job, index, table, rules, from, seen, &mut stack, top - 1);
     }
 }

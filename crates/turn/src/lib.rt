@@ -12,15 +12,16 @@ ghost use Rattle.turn.specs.Ready.{Ready, Made};
 mod asking;
 mod failing;
 mod gather;
+mod marks;
 mod newest;
 mod owners;
 mod passing;
 mod questions;
-mod stores;
 mod working;
 
 use job::ClaimIndex;
 use job::format;
+use table::stores;
 use table::words;
 
 // The kind of a turn.
@@ -48,8 +49,8 @@ fn wait_turn(job: &[u8], table: &mut [u32], w: usize, awaited: usize) -> Kind
     ensures { λ r. ⌜ Made (turn (jobOf (now (job .entry))) (now (table .entry)) w) r (now (table .exit)) ⌝ }
 {
     let claims = format::claim_count(job);
-    if 256 <= words::mark_at(table, awaited - 1) {
-        stores::store_word(table, 8 + 3 * claims + 2 * w, 0);
+    if words::is_complete(words::mark_at(table, awaited - 1)) {
+        stores::set_awaited(table, claims, w, 0);
         return Kind::Woke;
     }
     Kind::Idle

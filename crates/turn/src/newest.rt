@@ -1,22 +1,24 @@
 // The newest of some claims: highest opening number, then highest claim. The contracts cite `newest` of specs/Turn.
 ghost use mathlib.Core.Path.{_≡_};
 ghost use mathlib.Core.Bool.{not, _&&_};
-ghost use Prim.Native.Nat.{ℕ, suc, _+_, _*_, _-_, _≤_, _<_};
+ghost use Prim.Native.Nat.{ℕ, suc, _+_, _-_, _≤_, _<_};
 ghost use lib.Dec.{eqb, ltb};
 ghost use lib.ListN.{length};
 ghost use Rattle.base.specs.Choose.{pick};
 ghost use Rattle.base.specs.Lists.{upto, keep, every};
-ghost use Rattle.model.specs.Passes.{setOf};
-ghost use Rattle.table.specs.Layout.{number, owned};
+ghost use Rattle.base.specs.Sets.{setOf};
+ghost use Rattle.job.specs.Job.{mostClaims, mostWorkers};
+ghost use Rattle.table.specs.Layout.{workersFrom, number, owned};
 ghost use Rattle.turn.specs.Turn.{newest};
 ghost use Rattle.turn.specs.Ready.{passedIn, members};
+use base::byte_sets;
 use job::ClaimIndex;
-use model::sets;
+use job::Cursor;
 use table::words;
 
 // Claim c + 1, or best where that is newer; best is a claim + 1, or 0 for none.
 fn newer(table: &[u32], c: usize, best: usize) -> usize
-    requires { ⌜ (c < 4096) × (8 + 3 * (c + 1) ≤ length (now table)) × (8 + 3 * best ≤ length (now table)) ⌝ }
+    requires { ⌜ (c < mostClaims) × (workersFrom (c + 1) ≤ length (now table)) × (workersFrom best ≤ length (now table)) ⌝ }
     ensures { λ r. ⌜ r ≡ pick (eqb best 0) (suc c) (pick (ltb (number (now (table .entry)) (best - 1)) (number (now (table .entry)) c)) (suc c) best) ⌝ }
 {
     if best == 0 {
@@ -30,7 +32,7 @@ fn newer(table: &[u32], c: usize, best: usize) -> usize
 
 // Worker w's newest open claim + 1, or 0 where it owns none.
 pub fn newest_owned(table: &[u32], claims: usize, w: usize) -> usize
-    requires { ⌜ (claims ≤ 4096) × (8 + 3 * claims ≤ length (now table)) × (w < 32) ⌝ }
+    requires { ⌜ (claims ≤ mostClaims) × (workersFrom claims ≤ length (now table)) × (w < mostWorkers) ⌝ }
     ensures { λ r. ⌜ (r ≡ newest (now (table .entry)) (keep (owned (now (table .entry)) w) (upto claims))) × (r ≤ claims) ⌝ }
 {
     let mut best: usize = 0;
@@ -46,22 +48,18 @@ pub fn newest_owned(table: &[u32], claims: usize, w: usize) -> usize
 
 // Whether claim c has passed all its literals.
 pub fn passed_all(index: &ClaimIndex, table: &[u32], c: usize) -> bool
-    requires { ⌜ (c < 4096) × (8 + 3 * (c + 1) ≤ length (now table)) ⌝ }
+    requires { ⌜ (c < mostClaims) × (workersFrom (c + 1) ≤ length (now table)) ⌝ }
     ensures { λ r. ⌜ r ≡ passedIn (now (index .entry)) (now (table .entry)) c ⌝ }
 {
-    let all = job::Cursor::over(index, c, 0);
-    if all.end <= all.at {
-        return words::cursor_at(table, c) == 0;
-    }
-    words::cursor_at(table, c) == all.end - all.at
+    Cursor::over(index, c, words::cursor_at(table, c)).at_end()
 }
 
 // Whether claim c is in the set, is w's, and has a literal left.
 fn left_to_pass(index: &ClaimIndex, table: &[u32], seen: &[u8], w: usize, c: usize) -> bool
-    requires { ⌜ (c < 4096) × (8 + 3 * (c + 1) ≤ length (now table)) × (w < 32) ⌝ }
+    requires { ⌜ (c < mostClaims) × (workersFrom (c + 1) ≤ length (now table)) × (w < mostWorkers) ⌝ }
     ensures { λ r. ⌜ r ≡ (setOf (now (seen .entry)) c && (owned (now (table .entry)) w c && not (passedIn (now (index .entry)) (now (table .entry)) c))) ⌝ }
 {
-    if !sets::member(seen, c) {
+    if !byte_sets::member(seen, c) {
         return false;
     }
     if words::mark_at(table, c) != w + 1 {
@@ -72,7 +70,7 @@ fn left_to_pass(index: &ClaimIndex, table: &[u32], seen: &[u8], w: usize, c: usi
 
 // The newest claim of w in the set that has a literal left + 1, or 0 where there is none.
 pub fn newest_left(index: &ClaimIndex, table: &[u32], seen: &[u8], w: usize) -> usize
-    requires { ⌜ (length (now seen) ≤ 4096) × (8 + 3 * length (now seen) ≤ length (now table)) × (w < 32) ⌝ }
+    requires { ⌜ (length (now seen) ≤ mostClaims) × (workersFrom (length (now seen)) ≤ length (now table)) × (w < mostWorkers) ⌝ }
     ensures { λ r. ⌜ (r ≡ newest (now (table .entry)) (keep (λ (d : ℕ). owned (now (table .entry)) w d && not (passedIn (now (index .entry)) (now (table .entry)) d)) (members (now (seen .entry))))) × (r ≤ length (now (seen .entry))) ⌝ }
 {
     let mut best: usize = 0;
@@ -88,7 +86,7 @@ pub fn newest_left(index: &ClaimIndex, table: &[u32], seen: &[u8], w: usize) -> 
 
 // Whether claim c is w's and has passed all its literals.
 fn is_done(index: &ClaimIndex, table: &[u32], w: usize, c: usize) -> bool
-    requires { ⌜ (c < 4096) × (8 + 3 * (c + 1) ≤ length (now table)) × (w < 32) ⌝ }
+    requires { ⌜ (c < mostClaims) × (workersFrom (c + 1) ≤ length (now table)) × (w < mostWorkers) ⌝ }
     ensures { λ r. ⌜ r ≡ (owned (now (table .entry)) w c && passedIn (now (index .entry)) (now (table .entry)) c) ⌝ }
 {
     if words::mark_at(table, c) != w + 1 {
@@ -99,11 +97,11 @@ fn is_done(index: &ClaimIndex, table: &[u32], w: usize, c: usize) -> bool
 
 // Whether every claim of the set is w's and has passed all its literals.
 pub fn all_done(index: &ClaimIndex, table: &[u32], seen: &[u8], w: usize) -> bool
-    requires { ⌜ (length (now seen) ≤ 4096) × (8 + 3 * length (now seen) ≤ length (now table)) × (w < 32) ⌝ }
+    requires { ⌜ (length (now seen) ≤ mostClaims) × (workersFrom (length (now seen)) ≤ length (now table)) × (w < mostWorkers) ⌝ }
     ensures { λ r. ⌜ r ≡ every (λ (d : ℕ). owned (now (table .entry)) w d && passedIn (now (index .entry)) (now (table .entry)) d) (members (now (seen .entry))) ⌝ }
 {
     for c in 0..seen.len() {
-        if sets::member(seen, c) {
+        if byte_sets::member(seen, c) {
             if !is_done(index, table, w, c) {
                 return false;
             }

@@ -28,7 +28,7 @@ pub fn meets_worker(job: &[u8], table: &[u32], w: usize, v: usize) -> bool
         if mark == 0 {
             return false;
         }
-        if 256 <= mark {
+        if words::is_complete(mark) {
             return false;
         }
         at = mark - 1;

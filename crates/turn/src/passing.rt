@@ -1,41 +1,49 @@
 // The fourth bullet of a turn: a claim passes its next literal, or skips the rest of a rule that has failed. The contracts cite `passTurn` of specs/Turn.
 ghost use mathlib.Core.Path.{_≡_};
 ghost use mathlib.Core.Bool.{true, not};
-ghost use Prim.Native.Nat.{ℕ, _+_, _<_};
-ghost use lib.ListN.{length, getD};
+ghost use Prim.Native.Nat.{ℕ, _+_, _-_, _≤_, _<_};
+ghost use lib.ListN.{length, getD, set};
 ghost use Rattle.base.specs.Lists.{keep};
 ghost use Rattle.job.specs.Accepted.{WellFormed};
-ghost use Rattle.job.specs.Claims.{Index};
-ghost use Rattle.job.specs.Format.{claims, workers, jobOf};
-ghost use Rattle.table.specs.Layout.{cursor, fresh, owned};
+ghost use Rattle.job.specs.Job.{mostClaims, claimOf};
+ghost use Rattle.job.specs.Format.{claims, workers, rules, literals, literalAt, jobOf};
+ghost use Rattle.table.specs.Layout.{cursorWord, cursor, fresh, owned};
 ghost use Rattle.turn.specs.Turn.{lits, clear, reached, markAll, passTurn};
 ghost use Rattle.turn.specs.Ready.{Ready, Made};
 use crate::Kind;
 use crate::failing;
 use crate::gather;
+use crate::marks;
 use crate::owners;
-use crate::stores;
 use job::ClaimIndex;
 use job::Cursor;
+use job::checks::MOST_CLAIMS;
 use job::format;
+use table::stores;
 use table::words;
 
 // Room for a byte a claim.
-pub fn no_bytes() -> [u8; 4096]
-    ensures { λ r. ⌜ length r ≡ 4096 ⌝ }
+pub fn no_bytes() -> [u8; MOST_CLAIMS]
+    ensures { λ r. ⌜ length r ≡ mostClaims ⌝ }
 {
-    [0u8; 4096]
+    [0u8; MOST_CLAIMS]
 }
 
-// The claim of claim c's next literal, where it has passed some and has one left.
-fn next_claim(job: &[u8], index: &ClaimIndex, c: usize, passed: usize) -> usize
-    requires { ⌜ WellFormed (now job) × Index (now job) (now index) ⌝ }
-    requires { ⌜ (c < claims (now job)) × (passed < length (lits (jobOf (now job)) c)) ⌝ }
-    ensures { λ r. ⌜ (r ≡ getD (lits (jobOf (now (job .entry))) c) passed 0) × (r < claims (now (job .entry))) ⌝ }
+// The claim of the cursor's current literal.
+fn next_claim(job: &[u8], cursor: Cursor) -> usize
+    requires { ⌜ WellFormed (now job) × (cursor .at < literals (now job)) ⌝ }
+    ensures { λ r. ⌜ (r ≡ claimOf (literalAt (now (job .entry)) (rules (now (job .entry))) (cursor .at))) × (r < claims (now (job .entry))) ⌝ }
 {
-    let rules = format::rule_count(job);
-    let literal = Cursor::over(index, c, passed).current(job, rules);
-    format::claim_of(literal)
+    format::claim_of(cursor.current(job, format::rule_count(job)))
+}
+
+// Claim c has passed as many literals as the cursor over them.
+fn move_to(index: &ClaimIndex, table: &mut [u32], c: usize, cursor: Cursor)
+    requires { ⌜ (c < mostClaims) × (cursorWord c < length (now table)) ⌝ }
+    requires { ⌜ (getD (now index) c 0 ≤ cursor .at) × (cursor .at < 4294967296) ⌝ }
+    ensures { λ r. ⌜ now (table .exit) ≡ set (now (table .entry)) (cursorWord c) (cursor .at - getD (now (index .entry)) c 0) ⌝ }
+{
+    stores::set_cursor(table, c, cursor.passed(index, c));
 }
 
 // Every open claim reached from c becomes w's, with room for what is reached.
@@ -45,7 +53,7 @@ fn take_in(job: &[u8], index: &ClaimIndex, table: &mut [u32], w: usize, c: usize
     ensures { λ r. ⌜ now (table .exit) ≡ markAll (λ (d : ℕ). w + 1) (keep (λ (d : ℕ). not (fresh (now (table .entry)) d)) (reached (jobOf (now (job .entry))) (now (table .entry)) c)) (now (table .entry)) ⌝ }
 {
     gather::gather(job, index, table, c, seen);
-    stores::take_members(seen, table, w);
+    marks::take_members(seen, table, w);
 }
 
 // Every open claim reached from c becomes w's.
@@ -67,18 +75,18 @@ fn pass_clear(job: &[u8], index: &ClaimIndex, table: &mut [u32], w: usize, c: us
     requires { ⌜ clear (jobOf (now job)) (now table) c (cursor (now table) c) ≡ true ⌝ }
     ensures { λ r. ⌜ Made (passTurn (jobOf (now (job .entry))) (now (table .entry)) w c) r (now (table .exit)) ⌝ }
 {
-    let passed = words::cursor_at(table, c);
-    let b = next_claim(job, index, c, passed);
+    let cursor = Cursor::over(index, c, words::cursor_at(table, c));
+    let b = next_claim(job, cursor);
     let mark = words::mark_at(table, b);
-    stores::store_word(table, 9 + 3 * c, passed + 1);
-    if 256 <= mark {
+    move_to(index, table, c, cursor.advanced());
+    if words::is_complete(mark) {
         return Kind::Passed;
     }
     if mark == w + 1 {
         return Kind::Passed;
     }
     if mark == 0 {
-        stores::open_claim(table, w, b);
+        marks::open_claim(table, w, b);
         return Kind::Opened;
     }
     if owners::meets_worker(job, table, w, mark - 1) {
@@ -86,7 +94,7 @@ fn pass_clear(job: &[u8], index: &ClaimIndex, table: &mut [u32], w: usize, c: us
         return Kind::Took;
     }
     let claims = format::claim_count(job);
-    stores::store_word(table, 8 + 3 * claims + 2 * w, b + 1);
+    stores::set_awaited(table, claims, w, b + 1);
     Kind::Waits
 }
 
@@ -98,9 +106,9 @@ pub fn pass_turn(job: &[u8], index: &ClaimIndex, table: &mut [u32], w: usize, c:
     ensures { λ r. ⌜ Made (passTurn (jobOf (now (job .entry))) (now (table .entry)) w c) r (now (table .exit)) ⌝ }
 {
     let passed = words::cursor_at(table, c);
-    let over = failing::rule_over(job, index, table, c, passed);
-    if 0 < over {
-        stores::store_word(table, 9 + 3 * c, over);
+    if failing::rule_failed(job, index, table, c, passed) {
+        let cursor = Cursor::over(index, c, passed);
+        move_to(index, table, c, cursor.past_rule(index));
         return Kind::Passed;
     }
     pass_clear(job, index, table, w, c)

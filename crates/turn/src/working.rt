@@ -10,9 +10,9 @@ ghost use Rattle.turn.specs.Turn.{completedMark, markAll, workTurn};
 ghost use Rattle.turn.specs.Ready.{Ready, Made, members};
 use crate::Kind;
 use crate::gather;
+use crate::marks;
 use crate::newest;
 use crate::passing;
-use crate::stores;
 use job::ClaimIndex;
 use job::format;
 use model::evaluate;
@@ -23,9 +23,9 @@ fn complete_in(job: &[u8], table: &mut [u32], seen: &[u8], known: &mut [u8], val
     requires { ⌜ (length (now seen) ≡ claims (now job)) × (length (now known) ≡ claims (now job)) × (length (now values) ≡ claims (now job)) ⌝ }
     ensures { λ r. ⌜ now (table .exit) ≡ markAll (completedMark (jobOf (now (job .entry))) (now (table .entry))) (members (now (seen .entry))) (now (table .entry)) ⌝ }
 {
-    stores::read_values(table, known);
+    marks::read_values(table, known);
     evaluate::evaluate_known(job, known, values);
-    stores::complete_members(seen, values, table);
+    marks::complete_members(seen, values, table);
 }
 
 // Every claim of the set becomes complete: its value is that of the model in which each claim complete before has its rules exchanged.

@@ -8,8 +8,9 @@ use lib.ListN.{length, set}
 use Rattle.job.proofs.Written.{questions-count}
 use Rattle.job.specs.Format.{questions, claims, workers, jobOf}
 use Rattle.job.proofs.Parts.{Asked, asked-at}
+use Rattle.job.specs.Job.{mostClaims, mostWorkers}
 use Rattle.table.specs.Questions.{askedBy}
-use Rattle.table.specs.Layout.{mark}
+use Rattle.table.specs.Layout.{mark, answerAt, answeredAt}
 use Rattle.table.proofs.Asked.{asked-most}
 use Rattle.turn.proofs.Making.{made-from}
 use Rattle.turn.proofs.PutQuestion.{claim-low, fresh-left, puts-answered, puts-opened, puts-waits}
@@ -35,11 +36,11 @@ asked c = asked-at _ _ (c .before .before .rule-count .ensures .value) (c .befor
 
 -- what the stores go by: the words are there, the claim is one of the job's, and the count of answers is small
 record Sure (s t : List ℕ) (w n k claim : ℕ) : Type 0 where
-  words : 8 + 3 * claims s + 2 * workers s + questions s ≤ length t
+  words : answerAt (claims s) (workers s) (questions s) ≤ length t
   low : claim < claims s
-  few : n < 4096
-  most : claims s ≤ 4096
-  crew : workers s ≤ 32
+  few : n < mostClaims
+  most : claims s ≤ mostClaims
+  crew : workers s ≤ mostWorkers
 
 few-asked : (s : List ℕ) (w : ℕ) → length (askedBy (jobOf s) w) ≤ questions s
 unfolding askedBy
@@ -126,7 +127,7 @@ returns c =
     let p = c₇ .pre in
     let q = c₅ .question-at .result in
     let one = c₁ .store-word .ensures in
-    made-from (c .before .before .store-word2 .ensures ∙ ap (λ (x : List ℕ). set x (8 + 3 * c₆ .claim-count .result + 2 * a .w + 1) (a .n + 1)) one)
+    made-from (c .before .before .store-word2 .ensures ∙ ap (λ (x : List ℕ). set x (answeredAt (c₆ .claim-count .result) (a .w)) (a .n + 1)) one)
     (puts-answered s t (a .w) (a .n) (a .k) q (c₄ .mark-at .result) (p .0 .0) (p .1 .0) (p .1 .1) (p .1 .2) (asked c₅) (c₄ .mark-at .ensures .value) (c₃ .if1 .taken) (c₆ .claim-count .ensures .value) (c₂ .worker-count .ensures .value))
 
 open-claim-requires : tie.Need-open-claim-requires

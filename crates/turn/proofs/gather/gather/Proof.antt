@@ -7,20 +7,21 @@ use mathlib.Core.Path.{_≡_, sym, _∙_}
 use native.Mathlib.Omega.{arith}
 use lib.ListN.{length-set, length}
 use Rattle.job.specs.Format.{claims}
-use Rattle.model.proofs.Rules.{header-room}
+use Rattle.job.proofs.Accepted.{header-room}
+use Rattle.job.specs.Job.{mostClaims}
 use Rattle.turn.proofs.Gathering.{gathering-top, passed-few, passed-words, Gathering, left, passed-start, passed-room, gathering-start, next-low, next-fits, gathering-more, gathering-less, gathering-done}
 use Rattle.turn.proofs.gather.gather.Statement.{statement}
 use Rattle.turn.proofs.gather.gather.Tie as tie
 
 abbrev Inv-loop : tie.InvT-loop
 Inv-loop job index table claim seen₀ rules stack₀ top₀ seen stack top =
-    (length stack ≡ 4096) × Gathering job table claim (record { seen = seen; stack = stack; top = top })
+    (length stack ≡ mostClaims) × Gathering job table claim (record { seen = seen; stack = stack; top = top })
 
 abbrev μ-loop : tie.MeasureT-loop
 μ-loop job index table claim seen₀ rules stack₀ top₀ seen stack top = left job (record { seen = seen; stack = stack; top = top })
 
 -- the stack is no higher than there are claims
-few : (c : tie.In-loop Inv-loop μ-loop) → c .before .loop .top - 1 < 4096
+few : (c : tie.In-loop Inv-loop μ-loop) → c .before .loop .top - 1 < mostClaims
 few c = omega (arith, gathering-top (c .before .loop .inv .1))
 
 -- the claim taken off the stack

@@ -4,12 +4,13 @@ use mathlib.Core.Path.{sym, _∙_}
 use native.Mathlib.Omega.{arith}
 use borrow.Author.Needs.{needs}
 use lib.ListN.{length}
+use Rattle.job.specs.Job.{mostClaims}
 use Rattle.turn.proofs.Worklist.{visit-complete, visit-there, visit-push, push-room}
 use Rattle.turn.proofs.gather.visit.Statement.{statement}
 use Rattle.turn.proofs.gather.visit.Tie as tie
 
 -- a claim that is to be pushed has room
-room : (c : tie.Else2) → (c .before .before .before .before .before .before .before .before .args .top < length (c .before .before .before .before .before .before .before .before .args .stack .now)) × (c .before .before .before .before .before .before .before .before .args .top < 4096)
+room : (c : tie.Else2) → (c .before .before .before .before .before .before .before .before .args .top < length (c .before .before .before .before .before .before .before .before .args .stack .now)) × (c .before .before .before .before .before .before .before .before .args .top < mostClaims)
 room c =
     let start = c .before .before .before .before .before .before .before .before in
     let r = push-room _ _ (start .args .b) (start .pre .2) (start .pre .0) (sym (c .before .member .ensures) ∙ c .if2 .left) in

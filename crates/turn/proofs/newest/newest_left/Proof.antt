@@ -4,7 +4,7 @@ use mathlib.Core.Bool.{_&&_, not}
 use mathlib.Core.Path.{sym, _∙_, ap}
 use native.Mathlib.Omega.{arith}
 use lib.ListN.{length}
-use Rattle.model.specs.Passes.{setOf}
+use Rattle.base.specs.Sets.{setOf}
 use Rattle.turn.proofs.Sweeps.{Swept, swept-none, swept-more, swept-same, swept-all, keep-members}
 use Rattle.turn.specs.Ready.{passedIn}
 use Rattle.turn.specs.Turn.{newest}

@@ -37,7 +37,7 @@ returns c =
     let c₁ = c .before .before .before .before .before .before .before in
     let c₂ = c₁ .before .before .before .before .before in
     let c₃ = c₂ .before .before .before .before .before .before .before .before in
-    completed (c₃ .args .job .now) (c₃ .args .table .now) (c₃ .args .values .now) _ (c₃ .pre .1 .1) (c₂ .read-values .ensures) (c₁ .evaluate-known .ensures .output) (c₃ .args .seen .now) (c₃ .pre .1 .0) (c .before .before .complete-members .ensures)
+    completed (c₃ .args .job .now) (c₃ .args .table .now) (c₃ .args .values .now) _ (c₃ .pre .1 .1) (c₂ .read-values .ensures) (c₁ .evaluate-known .ensures .bytes) (c₃ .args .seen .now) (c₃ .pre .1 .0) (c .before .before .complete-members .ensures)
 
 pub complete-in-spec : {M : Type 1} → statement M
 complete-in-spec =

@@ -1,4 +1,4 @@
--- `turn::stores::read_values` meets its contract. Assumes nothing.
+-- `turn::marks::read_values` meets its contract. Assumes nothing.
 use Prim.Native.Nat.{ℕ, _+_, _-_, _≤_}
 use mathlib.Core.List.{List, _++_, append-nil}
 use mathlib.Core.Path.{_≡_, refl, _∙_, ap}
@@ -8,8 +8,8 @@ use lib.ListN.{length, drop, length-set}
 use Rattle.base.specs.Span.{span}
 use Rattle.base.proofs.Written.{written-start, written-more, written-whole}
 use Rattle.table.specs.Layout.{mark, valueOf}
-use Rattle.turn.proofs.stores.read_values.Statement.{statement}
-use Rattle.turn.proofs.stores.read_values.Tie as tie
+use Rattle.turn.proofs.marks.read_values.Statement.{statement}
+use Rattle.turn.proofs.marks.read_values.Tie as tie
 
 abbrev Inv-loop : tie.InvT-loop
 Inv-loop table known₀ c₀ c-end known c = (c ≤ length known₀) × (length known ≡ length known₀) × (known ≡ span (λ (d : ℕ). valueOf (mark table d)) 0 c ++ drop c known₀)

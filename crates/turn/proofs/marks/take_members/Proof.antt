@@ -1,4 +1,4 @@
--- `turn::stores::take_members` meets its contract. Assumes nothing.
+-- `turn::marks::take_members` meets its contract. Assumes nothing.
 use Prim.Native.Nat.{ℕ, _+_, _-_}
 use mathlib.Core.List.{List}
 use mathlib.Core.Bool.{Bool, _&&_, not}
@@ -7,13 +7,13 @@ use mathlib.Core.Logic.{⊎-elim}
 use native.Mathlib.Omega.{arith}
 use lib.Dec.{eqb}
 use lib.ListN.{length}
-use Rattle.model.specs.Passes.{setOf}
+use Rattle.base.specs.Sets.{setOf}
 use Rattle.turn.proofs.Marking.{Marks, marks-none, marks-skip, marks-next, marks-all}
 use Rattle.turn.proofs.Sweeps.{keep-members}
 use Rattle.turn.specs.Turn.{markAll}
 use Rattle.table.specs.Layout.{fresh}
-use Rattle.turn.proofs.stores.take_members.Statement.{statement}
-use Rattle.turn.proofs.stores.take_members.Tie as tie
+use Rattle.turn.proofs.marks.take_members.Statement.{statement}
+use Rattle.turn.proofs.marks.take_members.Tie as tie
 
 abbrev Inv-loop : tie.InvT-loop
 Inv-loop seen table₀ w c₀ c-end table c = Marks (λ (d : ℕ). w + 1) (λ (d : ℕ). setOf seen d && not (fresh table₀ d)) (length seen) table₀ c table

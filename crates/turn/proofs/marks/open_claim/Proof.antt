@@ -1,12 +1,13 @@
--- `turn::stores::open_claim` meets its contract. Assumes nothing.
+-- `turn::marks::open_claim` meets its contract. Assumes nothing.
 use Prim.Native.Nat.{ℕ, _+_, _*_}
 use mathlib.Core.Path.{ap}
 use native.Mathlib.Omega.{arith}
 use borrow.Author.Needs.{needs}
 use lib.ListN.{set, length-set}
+use Rattle.table.specs.Layout.{cursorWord, markWord, numberWord}
 use Rattle.turn.specs.Turn.{openClaim}
-use Rattle.turn.proofs.stores.open_claim.Statement.{statement}
-use Rattle.turn.proofs.stores.open_claim.Tie as tie
+use Rattle.turn.proofs.marks.open_claim.Statement.{statement}
+use Rattle.turn.proofs.marks.open_claim.Tie as tie
 
 word-at-requires : tie.Need-word-at-requires
 word-at-requires c κs = search needs
@@ -69,7 +70,7 @@ returns : tie.Need-returns
 unfolding openClaim
 returns c =
     let a = c .before .before .before .args in
-    ap (λ (n : ℕ). set (set (set (set (a .table .now) 7 (n + 1)) (8 + 3 * a .c) (a .w + 1)) (9 + 3 * a .c) 0) (10 + 3 * a .c) (n + 1)) (c .word-at .ensures .value)
+    ap (λ (n : ℕ). set (set (set (set (a .table .now) 7 (n + 1)) (markWord (a .c)) (a .w + 1)) (cursorWord (a .c)) 0) (numberWord (a .c)) (n + 1)) (c .word-at .ensures .value)
 
 pub open-claim-spec : {M : Type 1} → statement M
 open-claim-spec =

@@ -1,17 +1,18 @@
--- `turn::stores::complete_members` meets its contract. Assumes nothing.
+-- `turn::marks::complete_members` meets its contract. Assumes nothing.
 use Prim.Native.Nat.{ℕ, _+_, _-_}
 use mathlib.Core.Path.{sym, _∙_, ap, subst⁻¹}
 use mathlib.Core.Logic.{⊎-elim}
 use native.Mathlib.Omega.{arith}
 use lib.ListN.{length, getD}
-use Rattle.model.specs.Passes.{setOf}
+use Rattle.base.specs.Sets.{setOf}
+use Rattle.table.specs.Layout.{markOfValue}
 use Rattle.turn.proofs.Marking.{Marks, marks-none, marks-skip, marks-next, marks-all}
 use Rattle.turn.specs.Ready.{members}
-use Rattle.turn.proofs.stores.complete_members.Statement.{statement}
-use Rattle.turn.proofs.stores.complete_members.Tie as tie
+use Rattle.turn.proofs.marks.complete_members.Statement.{statement}
+use Rattle.turn.proofs.marks.complete_members.Tie as tie
 
 abbrev Inv-loop : tie.InvT-loop
-Inv-loop seen values table₀ c₀ c-end table c = Marks (λ (d : ℕ). 255 + getD values d 0) (setOf seen) (length seen) table₀ c table
+Inv-loop seen values table₀ c₀ c-end table c = Marks (λ (d : ℕ). markOfValue (getD values d 0)) (setOf seen) (length seen) table₀ c table
 
 abbrev μ-loop : tie.MeasureT-loop
 μ-loop seen values table₀ c₀ c-end table c = length seen - c
@@ -56,11 +57,11 @@ loop-again c =
     let values = c₁ .args .values .now in
     let t₀ = c₁ .args .table .now in
     let l = c .before .before .before .loop in
-    let f : ℕ → ℕ = λ d. 255 + getD values d 0 in
+    let f : ℕ → ℕ = λ d. markOfValue (getD values d 0) in
     let h = c .before .before .loop-test .taken in
     let m = c .before .member .ensures in
     ⊎-elim
-    (λ x. subst⁻¹ (Marks f (setOf seen) (length seen) t₀ (l .c + 1)) (x .3) (marks-next f (setOf seen) (length seen) t₀ (l .inv) h (sym m ∙ x .0 .taken) (ap (λ (v : ℕ). 255 + v) (x .2 .ensures .0))))
+    (λ x. subst⁻¹ (Marks f (setOf seen) (length seen) t₀ (l .c + 1)) (x .3) (marks-next f (setOf seen) (length seen) t₀ (l .inv) h (sym m ∙ x .0 .taken) (ap (λ (v : ℕ). markOfValue v) (x .2 .ensures .0))))
     (λ x. subst⁻¹ (Marks f (setOf seen) (length seen) t₀ (l .c + 1)) (x .1) (marks-skip f (setOf seen) (length seen) t₀ (l .inv) h (sym m ∙ x .0 .left)))
     (c .if1 .came)
 

@@ -7,7 +7,7 @@ use mathlib.Core.Path.{_≡_, sym, _∙_, ap}
 use native.Mathlib.Omega.{arith}
 use Rattle.base.proofs.Bools.{is, is-not}
 use Rattle.base.specs.Choose.{pick}
-use Rattle.job.specs.Job.{claimOf, ruleEnd}
+use Rattle.job.specs.Job.{claimOf, ruleEnd, mostLiterals}
 use Rattle.job.specs.Format.{rules as rulesOf, jobOf}
 use Rattle.job.specs.declared.Literal.{Literal}
 use Rattle.model.proofs.Rules.{header-room}
@@ -28,7 +28,7 @@ rule-count-requires c κs = header-room _ (c .before .before .pre .0 .job)
 over-requires : tie.Need-over-requires Inv-loop μ-loop
 over-requires c κs = let s = c .before .before .before in omega (arith, s .pre .1 .0, s .pre .0 .job .sized .claimsMost)
 
-most : (c : tie.After-over Inv-loop μ-loop) → c .over .result .at + c .before .before .before .before .args .passed < 16384
+most : (c : tie.After-over Inv-loop μ-loop) → c .over .result .at + c .before .before .before .before .args .passed < mostLiterals
 most c =
     let s = c .before .before .before .before in
     looking-most _ _ _ (s .pre .0) _ (s .pre .1 .0) _ (s .pre .1 .1) (looking-starts _ _ _ (s .pre .0) _ (s .pre .1 .0) _ (s .pre .1 .1) (c .over .ensures))

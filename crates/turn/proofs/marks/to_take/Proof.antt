@@ -1,4 +1,4 @@
--- `turn::stores::to_take` meets its contract. Assumes nothing.
+-- `turn::marks::to_take` meets its contract. Assumes nothing.
 use Prim.Native.Nat.{ℕ}
 use mathlib.Core.Bool.{not}
 use mathlib.Core.Path.{sym, _∙_, ap}
@@ -6,8 +6,8 @@ use borrow.Author.Tests.{not-true, not-false}
 use borrow.Author.Needs.{needs}
 use lib.Dec.{eqb}
 use Rattle.base.proofs.Bools.{and-on, and-off}
-use Rattle.turn.proofs.stores.to_take.Statement.{statement}
-use Rattle.turn.proofs.stores.to_take.Tie as tie
+use Rattle.turn.proofs.marks.to_take.Statement.{statement}
+use Rattle.turn.proofs.marks.to_take.Tie as tie
 
 member-requires : tie.Need-member-requires
 member-requires c κs = search needs
