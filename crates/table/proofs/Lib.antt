@@ -1,4 +1,5 @@
 pub mod Each
+pub mod Apart
 pub mod Sizes
 pub mod Asked
 pub mod Marks

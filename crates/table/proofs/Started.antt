@@ -17,9 +17,12 @@ use Rattle.base.specs.Sets.{count, one}
 use Rattle.base.specs.Span.{span}
 use Rattle.base.proofs.Span.{span-add}
 use Rattle.job.specs.Job.{Job}
-use Rattle.table.specs.Layout.{used, fixedWords, header, openedWord, opened, mark, cursor, number, awaited, answered, answer, fresh}
+use Rattle.table.specs.Layout.{used, fixedWords, header, openedWord, markWord, cursorWord, numberWord, awaitedWord, answeredWord, answerWord}
+use Rattle.table.specs.Layout.{opened, mark, cursor, number, awaited, answered, answer, fresh}
 use Rattle.table.specs.Ranges.{marked, InRange}
 use Rattle.table.specs.Start.{startWords}
+use Rattle.table.proofs.Apart.{opened-mark, opened-cursor, opened-number, opened-low, awaited-past, answered-past, workers-answers, answer-past}
+use Rattle.table.proofs.Apart.{opened-used, mark-used, cursor-used, number-used, awaited-used, answered-used, answer-low}
 
 span-zeros : (f : ℕ → ℕ) (a n : ℕ) → ((k : ℕ) → a ≤ k → f k ≡ 0) → span f a n ≡ replicate n 0
 unfolding span
@@ -84,27 +87,30 @@ module _ (j : Job) (t : List ℕ) where
   start-rest i h = after i (omega arith) ∙ past-zeros (rest j) (used j) t i (i - fixedWords) h (omega arith)
 
   pub start-opened : opened (startWords j t) ≡ 0
-  start-opened = start-zero openedWord (omega arith) (omega arith)
+  start-opened = start-zero openedWord (omega arith) (opened-used j)
 
   module _ (c : ℕ) (h : c < j .claims) where
     pub start-mark : mark (startWords j t) c ≡ 0
-    start-mark = start-zero _ (omega arith) (omega arith)
+    start-mark = start-zero (markWord c) (omega (arith, opened-mark c)) (mark-used j c h)
 
     pub start-cursor : cursor (startWords j t) c ≡ 0
-    start-cursor = start-zero _ (omega arith) (omega arith)
+    start-cursor = start-zero (cursorWord c) (omega (arith, opened-cursor c)) (cursor-used j c h)
 
     pub start-number : number (startWords j t) c ≡ 0
-    start-number = start-zero _ (omega arith) (omega arith)
+    start-number = start-zero (numberWord c) (omega (arith, opened-number c)) (number-used j c h)
 
   module _ (w : ℕ) (h : w < j .workers) where
     pub start-awaited : awaited j (startWords j t) w ≡ 0
-    start-awaited = start-zero _ (omega arith) (omega arith)
+    start-awaited = start-zero (awaitedWord j w) (omega (arith, opened-low (j .claims), awaited-past (j .claims) w)) (awaited-used j w h)
 
     pub start-answered : answered j (startWords j t) w ≡ 0
-    start-answered = start-zero _ (omega arith) (omega arith)
+    start-answered = start-zero (answeredWord j w) (omega (arith, opened-low (j .claims), answered-past (j .claims) w)) (answered-used j w h)
 
   pub start-answer : (k : ℕ) → k < length (j .questions) → answer j (startWords j t) k ≡ 0
-  start-answer k h = start-zero _ (omega arith) (omega arith)
+  start-answer k h =
+      let a = j .claims in
+      let n = j .workers in
+      start-zero (answerWord j k) (omega (arith, opened-low a, workers-answers a n, answer-past a n k)) (answer-low j k h)
 
 -- where no claim below n has a mark, none is counted
 none-marked : (t : List ℕ) (n : ℕ) → ((c : ℕ) → c < n → mark t c ≡ 0) → count (λ c. not (fresh t c)) n ≡ 0
