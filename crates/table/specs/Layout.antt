@@ -1,11 +1,12 @@
 -- The words t of a table of job j (01, 'Table words'). Where each word stands is said here and in src/words.rt, and nowhere else.
---   openedWord           the place of the header's last word; fixedWords   the words before it, which never change
---   markWord c, ..       where the three words of claim c stand
+--   openedWord           the place of the header's last word; fixedWords   how many words stand before it, which never change
+--   claimsFrom           where the words of claims start; markWord c, cursorWord c, numberWord c   where those of claim c stand
 --   workersFrom a        where the words of a claims end, and those of workers start
---   awaitedAt a w, ..    where the two words of worker w stand, in a table for a claims
---   answerAt a t k       where the word of question k stands, in a table for a claims and t workers
---   Place i              i is small enough to be a word's place in a slice
+--   awaitedAt a w, answeredAt a w   where the words of worker w stand, in a table for a claims
+--   answersFrom a t      where the words of a claims and t workers end, and those of questions start
+--   answerAt a t k       where the word of question k stands, in such a table
 --   awaitedWord j w, ..  the same places in a table of job j
+--   Place i              i is small enough to be a word's place in a slice
 --   used j               words used; header j   the first seven words
 --   mark t c, ..         what each word holds; opened t   claims opened so far
 --   trueMark, ..         the marks of complete claims: valueBase and a value, which is 1 to mostValue
