@@ -50,8 +50,8 @@ module _ (s index : List ℕ) (f : WellFormed s) (x : Index s index) (c : ℕ) (
       let e : getD index (c + 1) 0 ≡ getD index c 0 + length (lits (jobOf s) c) =
       omega (arith, x .starts c (omega arith), x .starts (c + 1) (omega arith), p .count, p .ordered, lits-length (jobOf s) c) in
       by-cases (ℕ-discrete (cursor t c) (length (lits (jobOf s) c)))
-      (λ q. le-leb _ _ (omega arith) ∙ sym (eq-eqb _ _ q))
-      (λ q. lt-leb _ _ (omega arith) ∙ sym (ne-eqb _ _ q))
+      (λ q. le-leb (getD index (c + 1) 0) (getD index c 0 + cursor t c) (omega arith) ∙ sym (eq-eqb _ _ q))
+      (λ q. lt-leb (getD index (c + 1) 0) (getD index c 0 + cursor t c) (omega arith) ∙ sym (ne-eqb _ _ q))
 
   -- with n literals passed and one left, the cursor k over them
   module _ (n : ℕ) (some : n < length (lits (jobOf s) c)) where

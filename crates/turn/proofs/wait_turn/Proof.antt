@@ -1,7 +1,7 @@
 -- `turn::wait_turn` meets its contract. Assumes nothing.
-use Prim.Native.Nat.{_-_}
 use native.Mathlib.Omega.{arith}
 use borrow.Author.Needs.{needs}
+use Rattle.turn.proofs.Tests.{complete-yes, complete-no}
 use Rattle.turn.proofs.WholeTurn.{wakes, waits-on}
 use Rattle.turn.proofs.Making.{made-from}
 use Rattle.turn.proofs.Following.{room, awaited-most}
@@ -16,31 +16,20 @@ sub-mark-at c = search needs
 
 mark-at-requires : tie.Need-mark-at-requires
 mark-at-requires c κs =
-    let a = c .before .before .before .before .args in
-    let s = a .job .now in
-    let t = a .table .now in
-    let p = c .before .before .before .before .pre in
-    omega (arith, room s t (p .0 .1), awaited-most s t (p .0 .1) (a .w) (p .0 .2), p .1)
+    let c₁ = c .before .before .before .before in
+    let a = c₁ .args in
+    let p = c₁ .pre in
+    omega (arith, room _ _ (p .0 .1), awaited-most (a .job .now) (a .table .now) (p .0 .1) (a .w) (p .0 .2), p .1)
 
-mul-store-word : tie.Need-mul-store-word
-mul-store-word c = search needs
+is-complete-requires : tie.Need-is-complete-requires
+is-complete-requires c κs = search needs
 
-add-store-word : tie.Need-add-store-word
-add-store-word c = search needs
-
-mul-store-word-2 : tie.Need-mul-store-word-2
-mul-store-word-2 c = search needs
-
-add-store-word-2 : tie.Need-add-store-word-2
-add-store-word-2 c = search needs
-
-store-word-requires : tie.Need-store-word-requires
-store-word-requires c κs =
-    let a = c .before .before .before .before .before .before .before .args in
-    let s = a .job .now in
-    let t = a .table .now in
-    let p = c .before .before .before .before .before .before .before .pre in
-    omega (arith, room s t (p .0 .1), p .0 .2)
+set-awaited-requires : tie.Need-set-awaited-requires
+set-awaited-requires c κs =
+    let c₁ = c .before .before .before .before .before in
+    let c₂ = c₁ .before .before .before in
+    let p = c₂ .pre in
+    omega (arith, room _ _ (p .0 .1), p .0 .2, c₁ .claim-count .ensures .value)
 
 same-length : tie.Need-same-length
 same-length c = search needs
@@ -48,25 +37,22 @@ same-length c = search needs
 returns : tie.Need-returns
 returns c =
     let c₁ = c .before .before .before .before in
-    let c₂ = c₁ .before in
-    let c₃ = c₂ .before .before in
-    let c₄ = c₃ .before .before .before in
-    let a = c₄ .args in
-    let s = a .job .now in
-    let t = a .table .now in
-    let p = c₄ .pre in
-    made-from (c .before .before .store-word .ensures) (wakes s t (a .w) (p .1 .1) (λ e. omega arith) (c₂ .mark-at .ensures .value) (c₁ .if1 .taken) (c₃ .claim-count .ensures .value))
+    let c₂ = c₁ .before .before .before .before in
+    let c₃ = c₂ .before .before .before in
+    let a = c₃ .args in
+    let p = c₃ .pre in
+    made-from (c .before .before .set-awaited .ensures)
+    (wakes (a .job .now) (a .table .now) (a .w) (p .1 .1) (λ e. omega arith) (c₁ .before .before .mark-at .ensures .value) (complete-yes (c₁ .before .is-complete .ensures) (c₁ .if1 .taken)) (c₂ .claim-count .ensures .value))
 
 same-length-2 : tie.Need-same-length-2
 same-length-2 c = search needs
 
 returns-2 : tie.Need-returns-2
 returns-2 c =
-    let a = c .before .before .before .before .before .before .args in
-    let s = a .job .now in
-    let t = a .table .now in
-    let p = c .before .before .before .before .before .before .pre in
-    waits-on s t (a .w) (p .1 .1) (λ e. omega arith) (c .before .mark-at .ensures .value) (c .if1 .left)
+    let c₁ = c .before .before .before .before .before .before .before in
+    let a = c₁ .args in
+    let p = c₁ .pre in
+    waits-on (a .job .now) (a .table .now) (a .w) (p .1 .1) (λ e. omega arith) (c .before .before .mark-at .ensures .value) (complete-no (c .before .is-complete .ensures) (c .if1 .left))
 
 pub wait-turn-spec : {M : Type 1} → statement M
 wait-turn-spec =
@@ -75,11 +61,8 @@ wait-turn-spec =
     claim-count-requires
     sub-mark-at
     mark-at-requires
-    mul-store-word
-    add-store-word
-    mul-store-word-2
-    add-store-word-2
-    store-word-requires
+    is-complete-requires
+    set-awaited-requires
     same-length
     returns
     same-length-2

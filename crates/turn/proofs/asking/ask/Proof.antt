@@ -1,10 +1,10 @@
 -- `turn::asking::ask` meets its contract. Assumes nothing.
-use Prim.Native.Nat.{_≤_, ℕ, _+_, _*_, _-_, _<_}
+use Prim.Native.Nat.{_≤_, ℕ, _+_, _<_}
 use mathlib.Core.List.{List}
-use mathlib.Core.Path.{sym, _∙_, ap, refl}
+use mathlib.Core.Path.{_≡_, sym, _∙_, ap, refl}
 use native.Mathlib.Omega.{arith}
 use borrow.Author.Needs.{needs}
-use lib.ListN.{length, set}
+use lib.ListN.{length, set, length-set}
 use Rattle.job.proofs.Written.{questions-count}
 use Rattle.job.specs.Format.{questions, claims, workers, jobOf}
 use Rattle.job.proofs.Parts.{Asked, asked-at}
@@ -12,6 +12,7 @@ use Rattle.job.specs.Job.{mostClaims, mostWorkers}
 use Rattle.table.specs.Questions.{askedBy}
 use Rattle.table.specs.Layout.{mark, answerAt, answeredAt}
 use Rattle.table.proofs.Asked.{asked-most}
+use Rattle.turn.proofs.Tests.{complete-yes, complete-no}
 use Rattle.turn.proofs.Making.{made-from}
 use Rattle.turn.proofs.PutQuestion.{claim-low, fresh-left, puts-answered, puts-opened, puts-waits}
 use Rattle.turn.proofs.Following.{room}
@@ -64,50 +65,44 @@ sure c =
 mark-at-requires : tie.Need-mark-at-requires
 mark-at-requires c κs = omega (arith, sure (c .before))
 
-mul-store-word : tie.Need-mul-store-word
-mul-store-word c = search needs
-
-add-store-word : tie.Need-add-store-word
-add-store-word c = search needs
+is-complete-requires : tie.Need-is-complete-requires
+is-complete-requires c κs = search needs
 
 worker-count-requires : tie.Need-worker-count-requires
 worker-count-requires c κs = search needs
 
-mul-store-word-2 : tie.Need-mul-store-word-2
-mul-store-word-2 c = search needs
+value-of-requires : tie.Need-value-of-requires
+value-of-requires c κs = search needs
 
-add-store-word-2 : tie.Need-add-store-word-2
-add-store-word-2 c = search needs
+set-answer-requires : tie.Need-set-answer-requires
+set-answer-requires c κs =
+    let c₁ = c .before .before .before .before .before in
+    let c₂ = c₁ .before .before .before .before .before in
+    let c₃ = c₂ .before .before .before in
+    let p = c₃ .pre in
+    omega (arith, sure (c₁ .before .before), p .1 .1, c₂ .claim-count .ensures .value, c .before .before .worker-count .ensures .value, c .value-of .ensures, c₁ .mark-at .ensures .small)
 
-add-store-word-3 : tie.Need-add-store-word-3
-add-store-word-3 c = search needs
+add-set-answered : tie.Need-add-set-answered
+add-set-answered c =
+    let c₁ = c .before .before .before .before .before .before .before .before .before .before .before in
+    omega (arith, sure (c₁))
 
-sub-store-word : tie.Need-sub-store-word
-sub-store-word c = search needs
+-- storing a word keeps the length
+longer : (t u : List ℕ) (i v : ℕ) → u ≡ set t i v → length u ≡ length t
+longer t u i v e = ap length e ∙ length-set t i v
 
-store-word-requires : tie.Need-store-word-requires
-store-word-requires c κs = omega (arith, sure (c .before .before .before .before .before))
-
-mul-store-word-3 : tie.Need-mul-store-word-3
-mul-store-word-3 c = search needs
-
-add-store-word-4 : tie.Need-add-store-word-4
-add-store-word-4 c = search needs
-
-mul-store-word-4 : tie.Need-mul-store-word-4
-mul-store-word-4 c = search needs
-
-add-store-word-5 : tie.Need-add-store-word-5
-add-store-word-5 c = search needs
-
-add-store-word-6 : tie.Need-add-store-word-6
-add-store-word-6 c = search needs
-
-add-store-word-7 : tie.Need-add-store-word-7
-add-store-word-7 c = omega (arith, sure (c .before .before .before .before .before .before .before .before .before))
-
-store-word-requires-2 : tie.Need-store-word-requires-2
-store-word-requires-2 c κs = omega (arith, sure (c .before .before .before .before .before .before .before .before .before))
+set-answered-requires : tie.Need-set-answered-requires
+set-answered-requires c κs =
+    let c₁ = c .before .before .before in
+    let c₂ = c₁ .before .before .before in
+    let c₃ = c₂ .before .before .before .before .before in
+    let c₄ = c₃ .before .before .before in
+    let c₅ = c₄ .before .before .before in
+    let a = c₅ .args in
+    let p = c₅ .pre in
+    let m = c₄ .claim-count .ensures .value in
+    let z = longer (a .table .now) (c₁ .set-answer .last .0) (answerAt (c₄ .claim-count .result) (c₂ .worker-count .result) (a .k)) (c₁ .before .value-of .result) (c₁ .set-answer .ensures) in
+    omega (arith, sure (c₃), p .0 .2, m, z)
 
 same-length : tie.Need-same-length
 same-length c = search needs
@@ -115,30 +110,28 @@ same-length c = search needs
 returns : tie.Need-returns
 returns c =
     let c₁ = c .before .before .before .before .before .before in
-    let c₂ = c₁ .before in
-    let c₃ = c₂ .before .before in
-    let c₄ = c₃ .before in
-    let c₅ = c₄ .before .before in
-    let c₆ = c₅ .before .before .before in
-    let c₇ = c₆ .before .before .before in
-    let a = c₇ .args in
+    let c₂ = c₁ .before .before .before in
+    let c₃ = c₂ .before .before .before in
+    let c₄ = c₃ .before .before .before .before .before in
+    let c₅ = c₄ .before .before .before in
+    let a = c₅ .args in
     let s = a .job .now in
     let t = a .table .now in
-    let p = c₇ .pre in
-    let q = c₅ .question-at .result in
-    let one = c₁ .store-word .ensures in
-    made-from (c .before .before .store-word2 .ensures ∙ ap (λ (x : List ℕ). set x (answeredAt (c₆ .claim-count .result) (a .w)) (a .n + 1)) one)
-    (puts-answered s t (a .w) (a .n) (a .k) q (c₄ .mark-at .result) (p .0 .0) (p .1 .0) (p .1 .1) (p .1 .2) (asked c₅) (c₄ .mark-at .ensures .value) (c₃ .if1 .taken) (c₆ .claim-count .ensures .value) (c₂ .worker-count .ensures .value))
+    let p = c₅ .pre in
+    let q = c₃ .before .before .question-at .result in
+    let v = c₁ .before .value-of .ensures in
+    let one = c₁ .set-answer .ensures ∙ ap (set t (answerAt (c₄ .claim-count .result) (c₂ .worker-count .result) (a .k))) v in
+    made-from (c .before .before .set-answered .ensures ∙ ap (λ (x : List ℕ). set x (answeredAt (c₄ .claim-count .result) (a .w)) (a .n + 1)) one)
+    (puts-answered s t (a .w) (a .n) (a .k) q (c₃ .mark-at .result) (p .0 .0) (p .1 .0) (p .1 .1) (p .1 .2) (asked (c₃ .before .before)) (c₃ .mark-at .ensures .value) (complete-yes (c₂ .before .before .is-complete .ensures) (c₂ .before .if1 .taken)) (c₄ .claim-count .ensures .value) (c₂ .worker-count .ensures .value))
 
 open-claim-requires : tie.Need-open-claim-requires
 open-claim-requires c κs =
-    let c₁ = c .before .before .before .before .before in
-    let c₂ = c₁ .before .before .before .before .before .before in
+    let c₁ = c .before .before .before .before in
+    let c₂ = c₁ .before .before .before .before .before .before .before .before in
     let a = c₂ .args in
-    let s = a .job .now in
-    let t = a .table .now in
-    let r = sure c₁ in
-    (omega arith, omega arith, omega arith, fresh-left s t (c₂ .pre .0 .0) (c₂ .pre .0 .1) (c₁ .question-at .result .claim) (r .low) (sym (c .before .before .before .mark-at .ensures .value) ∙ c .before .if2 .taken))
+    let p = c₂ .pre in
+    let r = sure (c₁ .before .before) in
+    (omega (arith, r), omega (arith, r), omega (arith, r, p .0 .2), fresh-left (a .job .now) (a .table .now) (p .0 .0) (p .0 .1) (c₁ .before .before .question-at .result .claim) (r .low) (sym (c₁ .mark-at .ensures .value) ∙ c .before .if2 .taken))
 
 same-length-2 : tie.Need-same-length-2
 same-length-2 c = search needs
@@ -146,33 +139,24 @@ same-length-2 c = search needs
 returns-2 : tie.Need-returns-2
 returns-2 c =
     let c₁ = c .before .before .before .before in
-    let c₂ = c₁ .before .before in
-    let c₃ = c₂ .before .before in
-    let c₄ = c₃ .before .before .before .before .before .before in
-    let a = c₄ .args in
-    let s = a .job .now in
-    let t = a .table .now in
-    let p = c₄ .pre in
-    let q = c₃ .question-at .result in
-    made-from (c .before .before .open-claim .ensures) (puts-opened s t (a .w) (a .n) (a .k) q (c₂ .mark-at .result) (p .0 .0) (p .1 .0) (p .1 .1) (p .1 .2) (asked c₃) (c₂ .mark-at .ensures .value) (c₁ .if2 .taken))
+    let c₂ = c₁ .before .before .before in
+    let c₃ = c₂ .before .before .before .before .before .before .before .before in
+    let a = c₃ .args in
+    let p = c₃ .pre in
+    made-from (c .before .before .open-claim .ensures)
+    (puts-opened (a .job .now) (a .table .now) (a .w) (a .n) (a .k) (c₂ .before .before .question-at .result) (c₂ .mark-at .result) (p .0 .0) (p .1 .0) (p .1 .1) (p .1 .2) (asked (c₂ .before .before)) (c₂ .mark-at .ensures .value) (c₁ .if2 .taken))
 
-mul-store-word-5 : tie.Need-mul-store-word-5
-mul-store-word-5 c = search needs
+add-set-awaited : tie.Need-add-set-awaited
+add-set-awaited c =
+    let c₁ = c .before .before .before .before .before .before in
+    omega (arith, sure (c₁))
 
-add-store-word-8 : tie.Need-add-store-word-8
-add-store-word-8 c = search needs
-
-mul-store-word-6 : tie.Need-mul-store-word-6
-mul-store-word-6 c = search needs
-
-add-store-word-9 : tie.Need-add-store-word-9
-add-store-word-9 c = search needs
-
-add-store-word-10 : tie.Need-add-store-word-10
-add-store-word-10 c = omega (arith, sure (c .before .before .before .before .before))
-
-store-word-requires-3 : tie.Need-store-word-requires-3
-store-word-requires-3 c κs = omega (arith, sure (c .before .before .before .before .before))
+set-awaited-requires : tie.Need-set-awaited-requires
+set-awaited-requires c κs =
+    let c₁ = c .before .before .before .before .before .before in
+    let c₂ = c₁ .before .before .before in
+    let c₃ = c₂ .before .before .before in
+    omega (arith, sure (c₁), c₃ .pre .0 .2, c₂ .claim-count .ensures .value)
 
 same-length-3 : tie.Need-same-length-3
 same-length-3 c = search needs
@@ -180,17 +164,13 @@ same-length-3 c = search needs
 returns-3 : tie.Need-returns-3
 returns-3 c =
     let c₁ = c .before .before .before .before in
-    let c₂ = c₁ .before in
-    let c₃ = c₂ .before in
-    let c₄ = c₃ .before .before in
-    let c₅ = c₄ .before .before .before in
-    let c₆ = c₅ .before .before .before in
-    let a = c₆ .args in
-    let s = a .job .now in
-    let t = a .table .now in
-    let p = c₆ .pre in
-    let q = c₄ .question-at .result in
-    made-from (c .before .before .store-word3 .ensures) (puts-waits s t (a .w) (a .n) (a .k) q (c₃ .mark-at .result) (p .0 .0) (p .1 .0) (p .1 .1) (p .1 .2) (asked c₄) (c₃ .mark-at .ensures .value) (c₁ .if2 .left) (c₂ .if1 .left) (c₅ .claim-count .ensures .value))
+    let c₂ = c₁ .before .before .before in
+    let c₃ = c₂ .before .before .before .before .before in
+    let c₄ = c₃ .before .before .before in
+    let a = c₄ .args in
+    let p = c₄ .pre in
+    made-from (c .before .before .set-awaited .ensures)
+    (puts-waits (a .job .now) (a .table .now) (a .w) (a .n) (a .k) (c₂ .before .before .question-at .result) (c₂ .mark-at .result) (p .0 .0) (p .1 .0) (p .1 .1) (p .1 .2) (asked (c₂ .before .before)) (c₂ .mark-at .ensures .value) (c₁ .if2 .left) (complete-no (c₁ .before .before .is-complete .ensures) (c₁ .before .if1 .left)) (c₃ .claim-count .ensures .value))
 
 pub ask-spec : {M : Type 1} → statement M
 ask-spec =
@@ -201,31 +181,18 @@ ask-spec =
     literal-count-requires
     question-at-requires
     mark-at-requires
-    mul-store-word
-    add-store-word
+    is-complete-requires
     worker-count-requires
-    mul-store-word-2
-    add-store-word-2
-    add-store-word-3
-    sub-store-word
-    store-word-requires
-    mul-store-word-3
-    add-store-word-4
-    mul-store-word-4
-    add-store-word-5
-    add-store-word-6
-    add-store-word-7
-    store-word-requires-2
+    value-of-requires
+    set-answer-requires
+    add-set-answered
+    set-answered-requires
     same-length
     returns
     open-claim-requires
     same-length-2
     returns-2
-    mul-store-word-5
-    add-store-word-8
-    mul-store-word-6
-    add-store-word-9
-    add-store-word-10
-    store-word-requires-3
+    add-set-awaited
+    set-awaited-requires
     same-length-3
     returns-3)

@@ -13,12 +13,12 @@ mark-at-requires c κs = search needs
 returns : tie.Need-returns
 returns c = failed-low _ _ (c .before .before .claim-of .ensures) (c .before .mark-at .ensures .value) (c .if1 .taken)
 
-false-mark-requires : tie.Need-false-mark-requires
-false-mark-requires c κs = search needs
+failing-mark-requires : tie.Need-failing-mark-requires
+failing-mark-requires c κs = search needs
 
 returns-2 : tie.Need-returns-2
-returns-2 c = failed-is _ _ (c .before .before .before .claim-of .ensures) (c .before .before .mark-at .ensures .value) (c .false-mark .ensures)
+returns-2 c = failed-is _ _ (c .before .before .before .claim-of .ensures) (c .before .before .mark-at .ensures .value) (c .failing-mark .ensures)
 
 pub failed-spec : {M : Type 1} → statement M
 failed-spec =
-    tie.close (tie.spec claim-of-requires mark-at-requires returns false-mark-requires returns-2)
+    tie.close (tie.spec claim-of-requires mark-at-requires returns failing-mark-requires returns-2)

@@ -1,4 +1,4 @@
--- `turn::failing::rule_over` meets its contract. The loop's invariant, `Looking` (proofs/Skipping): of the literals passed, those looked at, from
+-- `turn::failing::rule_failed` meets its contract. The loop's invariant, `Looking` (proofs/Skipping): of the literals passed, those looked at, from
 -- the last one back, are of the next one's rule, and none is false. The measure is how many are left. Assumes nothing.
 use Prim.Native.Nat.{ℕ, _+_, _-_, _≤_, _<_}
 use mathlib.Core.Bool.{Bool}
@@ -6,21 +6,20 @@ use mathlib.Core.List.{List}
 use mathlib.Core.Path.{_≡_, sym, _∙_, ap}
 use native.Mathlib.Omega.{arith}
 use Rattle.base.proofs.Bools.{is, is-not}
-use Rattle.base.specs.Choose.{pick}
-use Rattle.job.specs.Job.{claimOf, ruleEnd, mostLiterals}
-use Rattle.job.specs.Format.{rules as rulesOf, jobOf}
+use Rattle.job.specs.Job.{claimOf, mostLiterals}
+use Rattle.job.specs.Format.{rules as rulesOf}
 use Rattle.job.specs.declared.Literal.{Literal}
-use Rattle.model.proofs.Rules.{header-room}
-use Rattle.turn.specs.Turn.{failed, clear}
+use Rattle.job.proofs.Accepted.{header-room}
+use Rattle.turn.specs.Turn.{failed}
 use Rattle.turn.proofs.Skipping.{Looking, looking-starts, looking-most, looking-start, looking-low, looking-more, back-byte, back-word, found-none, found-other, found-failed}
-use Rattle.turn.proofs.failing.rule_over.Statement.{statement}
-use Rattle.turn.proofs.failing.rule_over.Tie as tie
+use Rattle.turn.proofs.failing.rule_failed.Statement.{statement}
+use Rattle.turn.proofs.failing.rule_failed.Tie as tie
 
 abbrev Inv-loop : tie.InvT-loop
-Inv-loop job index table c passed rules start next at₀ at = (rules ≡ rulesOf job) × Looking job index table c passed start at
+Inv-loop job index table c passed rules start at₀ at = (rules ≡ rulesOf job) × Looking job index table c passed start at
 
 abbrev μ-loop : tie.MeasureT-loop
-μ-loop job index table c passed rules start next at₀ at = at - start
+μ-loop job index table c passed rules start at₀ at = at - start
 
 rule-count-requires : tie.Need-rule-count-requires Inv-loop μ-loop
 rule-count-requires c κs = header-room _ (c .before .before .pre .0 .job)
@@ -33,8 +32,8 @@ most c =
     let s = c .before .before .before .before in
     looking-most _ _ _ (s .pre .0) _ (s .pre .1 .0) _ (s .pre .1 .1) (looking-starts _ _ _ (s .pre .0) _ (s .pre .1 .0) _ (s .pre .1 .1) (c .over .ensures))
 
-add-next : tie.Need-add-next Inv-loop μ-loop
-add-next c = omega (arith, most c)
+add-at : tie.Need-add-at Inv-loop μ-loop
+add-at c = omega (arith, most c)
 
 loop-holds : tie.Need-loop-holds Inv-loop μ-loop
 loop-holds c =
@@ -74,23 +73,15 @@ failed-requires c κs =
 looked : (t : List ℕ) {l l′ : Literal} → l ≡ l′ → {r : Bool} → r ≡ failed t l → r ≡ failed t l′
 looked t e q = q ∙ ap (failed t) e
 
-rule-end-requires : tie.Need-rule-end-requires Inv-loop μ-loop
-rule-end-requires c κs = most (c .before .before .before .before .before .before .before)
-
-over : (c : tie.After-rule-end Inv-loop μ-loop) → (c .before .before .before .before .before .before .before .before .over .result .at ≤ c .rule-end .result) × (c .rule-end .result - c .before .before .before .before .before .before .before .before .over .result .at ≡ pick (clear (jobOf (c .before .before .before .before .before .before .before .before .before .before .before .before .args .job .now)) (c .before .before .before .before .before .before .before .before .before .before .before .before .args .table .now) (c .before .before .before .before .before .before .before .before .before .before .before .before .args .c) (c .before .before .before .before .before .before .before .before .before .before .before .before .args .passed)) 0 (ruleEnd (c .before .before .before .before .before .before .before .before .before .before .before .before .args .c) (jobOf (c .before .before .before .before .before .before .before .before .before .before .before .before .args .job .now) .rules) (c .before .before .before .before .before .before .before .before .before .before .before .before .args .passed)))
-over c =
-    let e = c .before .before .before .before in
-    let i = e .before .before in
-    let s = i .before .before .before .before .before .before in
-    let d = looked (s .args .table .now) (c .before .before .before .literal-at .ensures) (c .before .before .failed .ensures) in
-    found-failed _ _ _ (s .pre .0) _ (s .pre .1 .0) _ (s .pre .1 .1) (i .before .loop .inv .1) (i .loop-test .taken)
-    (sym (e .before .bounded .ensures) ∙ e .if1 .left) (i .before .loop .inv .0) (is _ (sym d ∙ c .before .if2 .taken)) (c .rule-end .ensures .0)
-
-sub-result : tie.Need-sub-result Inv-loop μ-loop
-sub-result c = over c .0
-
 returns-2 : tie.Need-returns-2 Inv-loop μ-loop
-returns-2 c = over c .1
+returns-2 c =
+    let c₁ = c .before .before .before in
+    let c₂ = c₁ .before .before .before in
+    let c₃ = c₂ .before .before .before .before .before in
+    let s = c₃ in
+    let d = looked (s .args .table .now) (c .before .before .literal-at .ensures) (c .before .failed .ensures) in
+    found-failed _ _ _ (s .pre .0) _ (s .pre .1 .0) _ (s .pre .1 .1) (c₂ .loop .inv .1) (c₁ .before .before .loop-test .taken) (sym (c₁ .before .bounded .ensures) ∙ c₁ .if1 .left) (c₂ .loop .inv .0)
+    (is _ (sym d ∙ c .if2 .taken))
 
 loop-less : tie.Need-loop-less Inv-loop μ-loop
 loop-less c = omega (arith, c .before .before .before .before .before .loop-test .taken)
@@ -109,23 +100,21 @@ returns-3 c =
     let s = c .before .before .before .before .before .before in
     found-none _ _ _ (s .pre .0) _ (s .pre .1 .0) _ (s .pre .1 .1) (c .before .loop .inv .1) (c .loop-test .left)
 
-pub rule-over-spec : {M : Type 1} → statement M
-rule-over-spec =
+pub rule-failed-spec : {M : Type 1} → statement M
+rule-failed-spec =
     tie.close
     (tie.spec
     Inv-loop
     μ-loop
     rule-count-requires
     over-requires
-    add-next
+    add-at
     loop-holds
     bounded-requires
     returns
     sub-at
     literal-at-requires
     failed-requires
-    rule-end-requires
-    sub-result
     returns-2
     loop-less
     loop-again

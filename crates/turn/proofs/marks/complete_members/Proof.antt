@@ -23,26 +23,17 @@ loop-holds c = marks-none _ _ _ _
 member-requires : tie.Need-member-requires Inv-loop μ-loop
 member-requires c κs = omega arith
 
-shared-slice-read-wide : tie.Need-shared-slice-read-wide Inv-loop μ-loop
-shared-slice-read-wide c = omega arith
+shared-slice-read-byte : tie.Need-shared-slice-read-byte Inv-loop μ-loop
+shared-slice-read-byte c = omega arith
 
-wide-requires : tie.Need-wide-requires Inv-loop μ-loop
-wide-requires c κs = omega arith
+byte-requires : tie.Need-byte-requires Inv-loop μ-loop
+byte-requires c κs = omega arith
 
-add-table : tie.Need-add-table Inv-loop μ-loop
-add-table c = omega arith
+mark-of-value-requires : tie.Need-mark-of-value-requires Inv-loop μ-loop
+mark-of-value-requires c κs = omega (arith, c .byte .ensures .small)
 
-mul-table : tie.Need-mul-table Inv-loop μ-loop
-mul-table c = omega arith
-
-add-table-2 : tie.Need-add-table-2 Inv-loop μ-loop
-add-table-2 c = omega arith
-
-mul-table-2 : tie.Need-mul-table-2 Inv-loop μ-loop
-mul-table-2 c = omega arith
-
-slice-write-table : tie.Need-slice-write-table Inv-loop μ-loop
-slice-write-table c = omega arith
+set-mark-requires : tie.Need-set-mark-requires Inv-loop μ-loop
+set-mark-requires c κs = omega arith
 
 add-c : tie.Need-add-c Inv-loop μ-loop
 add-c c = omega arith
@@ -61,7 +52,7 @@ loop-again c =
     let h = c .before .before .loop-test .taken in
     let m = c .before .member .ensures in
     ⊎-elim
-    (λ x. subst⁻¹ (Marks f (setOf seen) (length seen) t₀ (l .c + 1)) (x .3) (marks-next f (setOf seen) (length seen) t₀ (l .inv) h (sym m ∙ x .0 .taken) (ap (λ (v : ℕ). markOfValue v) (x .2 .ensures .0))))
+    (λ x. subst⁻¹ (Marks f (setOf seen) (length seen) t₀ (l .c + 1)) (x .8 ∙ x .5 .ensures) (marks-next f (setOf seen) (length seen) t₀ (l .inv) h (sym m ∙ x .0 .taken) (x .4 .ensures ∙ ap (λ (v : ℕ). markOfValue v) (x .3 .ensures .value))))
     (λ x. subst⁻¹ (Marks f (setOf seen) (length seen) t₀ (l .c + 1)) (x .1) (marks-skip f (setOf seen) (length seen) t₀ (l .inv) h (sym m ∙ x .0 .left)))
     (c .if1 .came)
 
@@ -80,13 +71,10 @@ complete-members-spec =
     μ-loop
     loop-holds
     member-requires
-    shared-slice-read-wide
-    wide-requires
-    add-table
-    mul-table
-    add-table-2
-    mul-table-2
-    slice-write-table
+    shared-slice-read-byte
+    byte-requires
+    mark-of-value-requires
+    set-mark-requires
     add-c
     loop-less
     loop-again

@@ -27,23 +27,11 @@ loop-holds c = marks-none _ _ _ _
 to-take-requires : tie.Need-to-take-requires Inv-loop μ-loop
 to-take-requires c κs = omega arith
 
-add-table : tie.Need-add-table Inv-loop μ-loop
-add-table c = omega arith
+add-set-mark : tie.Need-add-set-mark Inv-loop μ-loop
+add-set-mark c = omega arith
 
-cast-table : tie.Need-cast-table Inv-loop μ-loop
-cast-table c = omega arith
-
-mul-table : tie.Need-mul-table Inv-loop μ-loop
-mul-table c = omega arith
-
-add-table-2 : tie.Need-add-table-2 Inv-loop μ-loop
-add-table-2 c = omega arith
-
-mul-table-2 : tie.Need-mul-table-2 Inv-loop μ-loop
-mul-table-2 c = omega arith
-
-slice-write-table : tie.Need-slice-write-table Inv-loop μ-loop
-slice-write-table c = omega arith
+set-mark-requires : tie.Need-set-mark-requires Inv-loop μ-loop
+set-mark-requires c κs = omega arith
 
 add-c : tie.Need-add-c Inv-loop μ-loop
 add-c c = omega arith
@@ -64,7 +52,7 @@ loop-again c =
     let h = c .before .before .before .loop-test .taken in
     let m = c .before .to-take .ensures ∙ ap (λ (k : ℕ). setOf seen (l .c) && not (eqb k 0)) (l .inv .ahead (l .c) (omega arith)) in
     ⊎-elim
-    (λ x. subst⁻¹ (Marks f p (length seen) t₀ (l .c + 1)) (x .1) (marks-next f p (length seen) t₀ (l .inv) h (sym m ∙ x .0 .taken) refl))
+    (λ x. subst⁻¹ (Marks f p (length seen) t₀ (l .c + 1)) (x .5 ∙ x .2 .ensures) (marks-next f p (length seen) t₀ (l .inv) h (sym m ∙ x .0 .taken) refl))
     (λ x. subst⁻¹ (Marks f p (length seen) t₀ (l .c + 1)) (x .1) (marks-skip f p (length seen) t₀ (l .inv) h (sym m ∙ x .0 .left)))
     (c .if1 .came)
 
@@ -86,12 +74,8 @@ take-members-spec =
     μ-loop
     loop-holds
     to-take-requires
-    add-table
-    cast-table
-    mul-table
-    add-table-2
-    mul-table-2
-    slice-write-table
+    add-set-mark
+    set-mark-requires
     add-c
     loop-less
     loop-again

@@ -3,6 +3,8 @@ use Prim.Native.Nat.{ℕ, _-_, _<_}
 use mathlib.Core.Path.{_≡_, sym, _∙_, ap}
 use native.Mathlib.Omega.{arith}
 use Rattle.job.specs.Format.{workers, jobOf}
+use Rattle.table.specs.Layout.{trueMark}
+use Rattle.turn.proofs.Tests.{complete-yes, complete-no}
 use Rattle.turn.proofs.Following.{awaited-read, met, no-moves, awaits-none, at-fresh, at-complete, moves, room, awaited-most, open-owner}
 use Rattle.turn.specs.Turn.{meets}
 use Rattle.turn.proofs.owners.meets_worker.Statement.{statement}
@@ -23,41 +25,35 @@ worker-count-requires c κs = omega arith
 loop-holds : tie.Need-loop-holds Inv-loop μ-loop
 loop-holds c =
     let c₁ = c .before .before .before .before in
-    let s = c₁ .args .job .now in
-    (c₁ .pre .2, ap (λ (k : ℕ). meets k (jobOf s) (c₁ .args .table .now) (c₁ .args .w) (c₁ .args .v)) (sym (c .worker-count .ensures .value)))
+    let a = c₁ .args in
+    (c₁ .pre .2, ap (λ (k : ℕ). meets k (jobOf (a .job .now)) (a .table .now) (a .w) (a .v)) (sym (c .worker-count .ensures .value)))
 
 returns : tie.Need-returns Inv-loop μ-loop
 returns c =
     let c₁ = c .before .before .before .before .before .before .before in
-    let s = c₁ .args .job .now in
-    let t = c₁ .args .table .now in
-    let w = c₁ .args .w in
-    let r = c₁ .pre .1 in
+    let a = c₁ .args in
     let l = c .before .before .loop in
-    met (jobOf s) t w (l .left) (l .at) (c .if1 .taken) ∙ sym (l .inv .1)
+    met (jobOf (a .job .now)) (a .table .now) (a .w) (l .left) (l .at) (c .if1 .taken) ∙ sym (l .inv .1)
 
 awaited-at-requires : tie.Need-awaited-at-requires Inv-loop μ-loop
 awaited-at-requires c κs =
     let c₁ = c .before .before .before .before .before .before .before in
-    let s = c₁ .args .job .now in
-    let t = c₁ .args .table .now in
-    let w = c₁ .args .w in
+    let a = c₁ .args in
     let r = c₁ .pre .1 in
     let l = c .before .before .loop in
-    omega (arith, room s t r)
+    omega (arith, room (a .job .now) (a .table .now) r)
 
 returns-2 : tie.Need-returns-2 Inv-loop μ-loop
 returns-2 c =
-    let c₁ = c .before .before .before .before in
-    let c₂ = c₁ .before .before in
+    let c₁ = c .before .before .before in
+    let c₂ = c₁ .before .before .before in
     let c₃ = c₂ .before .before .before in
     let s = c₃ .args .job .now in
     let t = c₃ .args .table .now in
     let w = c₃ .args .w in
-    let r = c₃ .pre .1 in
-    let l = c₁ .loop in
+    let l = c₁ .before .loop in
     let a = awaited-read s t (l .at) (c₂ .claim-count .ensures .value) (c .before .awaited-at .ensures .value) in
-    awaits-none (jobOf s) t w (l .left) (l .at) (c .before .before .before .loop-test .taken) (c .before .before .if1 .left) a (c .if2 .taken) ∙ sym (l .inv .1)
+    awaits-none (jobOf s) t w (l .left) (l .at) (c₁ .loop-test .taken) (c .before .before .if1 .left) a (c .if2 .taken) ∙ sym (l .inv .1)
 
 sub-mark-at : tie.Need-sub-mark-at Inv-loop μ-loop
 sub-mark-at c = omega arith
@@ -65,46 +61,41 @@ sub-mark-at c = omega arith
 mark-at-requires : tie.Need-mark-at-requires Inv-loop μ-loop
 mark-at-requires c κs =
     let c₁ = c .before .before .before .before in
-    let c₂ = c₁ .before .before in
-    let c₃ = c₂ .before .before .before in
-    let s = c₃ .args .job .now in
-    let t = c₃ .args .table .now in
-    let w = c₃ .args .w in
-    let r = c₃ .pre .1 in
+    let c₂ = c₁ .before .before .before .before .before in
+    let s = c₂ .args .job .now in
+    let t = c₂ .args .table .now in
+    let r = c₂ .pre .1 in
     let l = c₁ .loop in
-    let a = awaited-read s t (l .at) (c₂ .claim-count .ensures .value) (c .before .awaited-at .ensures .value) in
+    let a = awaited-read s t (l .at) (c₁ .before .before .claim-count .ensures .value) (c .before .awaited-at .ensures .value) in
     omega (arith, room s t r, awaited-most s t r (l .at) (l .inv .0))
 
 returns-3 : tie.Need-returns-3 Inv-loop μ-loop
 returns-3 c =
-    let c₁ = c .before .before .before .before in
-    let c₂ = c₁ .before in
-    let c₃ = c₂ .before in
-    let c₄ = c₃ .before .before in
-    let c₅ = c₄ .before .before .before in
-    let s = c₅ .args .job .now in
-    let t = c₅ .args .table .now in
-    let w = c₅ .args .w in
-    let r = c₅ .pre .1 in
-    let l = c₃ .loop in
-    let a = awaited-read s t (l .at) (c₄ .claim-count .ensures .value) (c .before .before .before .awaited-at .ensures .value) in
-    at-fresh (jobOf s) t w (l .left) (l .at) (c₂ .loop-test .taken) (c₁ .if1 .left) a (c .before .before .if2 .left) (c .before .mark-at .ensures .value) (c .if3 .taken) ∙ sym (l .inv .1)
+    let c₁ = c .before .before .before in
+    let c₂ = c₁ .before .before .before in
+    let c₃ = c₂ .before .before .before .before .before in
+    let s = c₃ .args .job .now in
+    let t = c₃ .args .table .now in
+    let w = c₃ .args .w in
+    let l = c₂ .loop in
+    let a = awaited-read s t (l .at) (c₂ .before .before .claim-count .ensures .value) (c₁ .awaited-at .ensures .value) in
+    at-fresh (jobOf s) t w (l .left) (l .at) (c₁ .before .before .loop-test .taken) (c₁ .before .if1 .left) a (c .before .before .if2 .left) (c .before .mark-at .ensures .value) (c .if3 .taken) ∙ sym (l .inv .1)
+
+is-complete-requires : tie.Need-is-complete-requires Inv-loop μ-loop
+is-complete-requires c κs = tt
 
 returns-4 : tie.Need-returns-4 Inv-loop μ-loop
 returns-4 c =
-    let c₁ = c .before .before .before .before in
-    let c₂ = c₁ .before in
-    let c₃ = c₂ .before in
-    let c₄ = c₃ .before in
-    let c₅ = c₄ .before .before in
-    let c₆ = c₅ .before .before .before in
-    let s = c₆ .args .job .now in
-    let t = c₆ .args .table .now in
-    let w = c₆ .args .w in
-    let r = c₆ .pre .1 in
-    let l = c₄ .loop in
-    let a = awaited-read s t (l .at) (c₅ .claim-count .ensures .value) (c₁ .awaited-at .ensures .value) in
-    at-complete (jobOf s) t w (l .left) (l .at) (c₃ .loop-test .taken) (c₂ .if1 .left) a (c .before .before .before .if2 .left) (c .before .before .mark-at .ensures .value) (c .before .if3 .left) (c .if4 .taken) ∙ sym (l .inv .1)
+    let c₁ = c .before .before .before in
+    let c₂ = c₁ .before .before .before in
+    let c₃ = c₂ .before .before .before .before in
+    let c₄ = c₃ .before .before .before in
+    let s = c₄ .args .job .now in
+    let t = c₄ .args .table .now in
+    let w = c₄ .args .w in
+    let l = c₂ .before .before .loop in
+    let a = awaited-read s t (l .at) (c₃ .claim-count .ensures .value) (c₁ .before .before .awaited-at .ensures .value) in
+    at-complete (jobOf s) t w (l .left) (l .at) (c₂ .before .loop-test .taken) (c₂ .if1 .left) a (c₁ .before .if2 .left) (c₁ .mark-at .ensures .value) (c .before .before .if3 .left) (complete-yes (c .before .is-complete .ensures) (c .if4 .taken)) ∙ sym (l .inv .1)
 
 sub-at : tie.Need-sub-at Inv-loop μ-loop
 sub-at c = omega arith
@@ -117,28 +108,28 @@ loop-less c = omega arith
 
 loop-again : tie.Need-loop-again Inv-loop μ-loop
 loop-again c =
-    let c₁ = c .before .before .before .before in
-    let c₂ = c₁ .before in
-    let c₃ = c₂ .before in
-    let c₄ = c₃ .before in
-    let c₅ = c₄ .before .before in
-    let c₆ = c₅ .before .before .before in
-    let s = c₆ .args .job .now in
-    let t = c₆ .args .table .now in
-    let w = c₆ .args .w in
-    let r = c₆ .pre .1 in
-    let l = c₄ .loop in
-    let a = awaited-read s t (l .at) (c₅ .claim-count .ensures .value) (c₁ .awaited-at .ensures .value) in
-    let m = c .before .before .mark-at .ensures .value in
+    let c₁ = c .before .before .before in
+    let c₂ = c₁ .before .before .before in
+    let c₃ = c₂ .before .before .before .before in
+    let c₄ = c₃ .before .before .before in
+    let s = c₄ .args .job .now in
+    let t = c₄ .args .table .now in
+    let w = c₄ .args .w in
+    let r = c₄ .pre .1 in
+    let l = c₂ .before .before .loop in
+    let a = awaited-read s t (l .at) (c₃ .claim-count .ensures .value) (c₁ .before .before .awaited-at .ensures .value) in
+    let m = c₁ .mark-at .ensures .value in
+    let n : c .before .before .before .mark-at .result < trueMark = complete-no (c .before .is-complete .ensures) (c .if4 .left) in
     let h = awaited-most s t r (l .at) (l .inv .0) in
-    let o = open-owner s t r (c₁ .awaited-at .result - 1) (omega arith) (omega arith) in
-    (omega arith, l .inv .1 ∙ moves (jobOf s) t w (l .left) (l .at) (c₃ .loop-test .taken) (c₂ .if1 .left) a (c .before .before .before .if2 .left) m (c .before .if3 .left) (c .if4 .left))
+    let o = open-owner s t r (c₁ .before .before .awaited-at .result - 1) (omega arith) (omega (arith, n, m)) in
+    (omega arith, l .inv .1 ∙ moves (jobOf s) t w (l .left) (l .at) (c₂ .before .loop-test .taken) (c₂ .if1 .left) a (c₁ .before .if2 .left) m (c .before .before .if3 .left) n)
 
 returns-5 : tie.Need-returns-5 Inv-loop μ-loop
 returns-5 c =
-    let s = c .before .before .before .before .before .before .args .job .now in
+    let c₁ = c .before .before .before .before .before .before in
+    let a = c₁ .args in
     let l = c .before .loop in
-    no-moves (jobOf s) (c .before .before .before .before .before .before .args .table .now) (c .before .before .before .before .before .before .args .w) (l .left) (l .at) (c .loop-test .left) ∙ sym (l .inv .1)
+    no-moves (jobOf (a .job .now)) (a .table .now) (a .w) (l .left) (l .at) (c .loop-test .left) ∙ sym (l .inv .1)
 
 pub meets-worker-spec : {M : Type 1} → statement M
 meets-worker-spec =
@@ -155,6 +146,7 @@ meets-worker-spec =
     sub-mark-at
     mark-at-requires
     returns-3
+    is-complete-requires
     returns-4
     sub-at
     sub-left

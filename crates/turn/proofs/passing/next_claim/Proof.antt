@@ -1,32 +1,30 @@
--- `turn::passing::next_claim` meets its contract: the index says where the claim's literals stand. Assumes nothing.
+-- `turn::passing::next_claim` meets its contract. Assumes nothing.
+use mathlib.Core.Path.{_∙_, ap, subst⁻¹}
+use Prim.Native.Nat.{ℕ, _<_}
 use native.Mathlib.Omega.{arith}
 use borrow.Author.Needs.{needs}
-use Rattle.turn.proofs.Cursors.{next-few, next-room, next-is}
+use Rattle.job.specs.Job.{claimOf}
+use Rattle.job.specs.Format.{claims, literalAt}
 use Rattle.turn.proofs.passing.next_claim.Statement.{statement}
 use Rattle.turn.proofs.passing.next_claim.Tie as tie
 
 rule-count-requires : tie.Need-rule-count-requires
 rule-count-requires c κs = search needs
 
-over-requires : tie.Need-over-requires
-over-requires c κs =
-    let a = c .before .before .pre in
-    (omega (arith, a .1 .0, a .0 .0 .sized .claimsMost), next-few _ (c .before .before .args .index .now) (a .0 .0) (a .0 .1) _ (a .1 .0) _ (a .1 .1))
-
 current-requires : tie.Need-current-requires
-current-requires c κs =
-    let a = c .before .before .before .pre in
-    next-room _ (c .before .before .before .args .index .now) (a .0 .0) (a .0 .1) _ (a .1 .0) _ (a .1 .1) (c .before .rule-count .ensures .value) (c .over .ensures)
+current-requires c κs = let p = c .before .before .pre in omega (arith, c .rule-count .ensures .value, p .1, p .0 .sized .size)
 
 claim-of-requires : tie.Need-claim-of-requires
 claim-of-requires c κs = search needs
 
 returns : tie.Need-returns
 returns c =
-    let a = c .before .before .before .before .before .pre in
-    next-is _ (c .before .before .before .before .before .args .index .now) (a .0 .0) (a .0 .1) _ (a .1 .0) _ (a .1 .1) (c .before .before .before .rule-count .ensures .value) (c .before .before .over .ensures) (c .before .current .ensures) (c .claim-of .ensures)
+    let c₁ = c .before .before .before .before in
+    let s = c₁ .args .job .now in
+    let k = c₁ .args .cursor in
+    let p = c₁ .pre in
+    let e = c .claim-of .ensures ∙ (ap claimOf (c .before .current .ensures) ∙ ap (λ (m : ℕ). claimOf (literalAt s m (k .at))) (c .before .before .rule-count .ensures .value)) in
+    (e, subst⁻¹ (λ (b : ℕ). b < claims s) e (p .0 .literal (k .at) (p .1)))
 
 pub next-claim-spec : {M : Type 1} → statement M
-next-claim-spec =
-    tie.close
-    (tie.spec rule-count-requires over-requires current-requires claim-of-requires returns)
+next-claim-spec = tie.close (tie.spec rule-count-requires current-requires claim-of-requires returns)

@@ -1,47 +1,63 @@
 -- `turn::passing::pass_turn` meets its contract: the rest of a rule that has failed is skipped (proofs/Skipping), any other literal passed. Assumes nothing.
 use native.Mathlib.Omega.{arith}
 use borrow.Author.Needs.{needs}
+use Rattle.turn.proofs.Cursors.{next-there}
 use Rattle.turn.proofs.Following.{room}
-use Rattle.turn.proofs.Skipping.{skip-most, pass-skipped, pass-clear, lits-few}
+use Rattle.turn.proofs.Skipping.{skip-low, pass-skipped, pass-clear}
 use Rattle.turn.proofs.passing.pass_turn.Statement.{statement}
 use Rattle.turn.proofs.passing.pass_turn.Tie as tie
 
 cursor-at-requires : tie.Need-cursor-at-requires
 cursor-at-requires c κs =
-    let a = c .before .before .before .pre in
-    omega (arith, room _ _ (a .0 .table), a .1 .0 .0)
+    let c₁ = c .before .before .before in
+    let p = c₁ .pre in omega (arith, room _ _ (p .0 .table), p .1 .0 .0)
 
-rule-over-requires : tie.Need-rule-over-requires
-rule-over-requires c κs = search needs
+rule-failed-requires : tie.Need-rule-failed-requires
+rule-failed-requires c κs = search needs
 
-mul-store-word : tie.Need-mul-store-word
-mul-store-word c = search needs
+over-requires : tie.Need-over-requires
+over-requires c κs =
+    let c₁ = c .before .before .before in
+    let c₂ = c₁ .before .before .before .before in
+    let p = c₂ .pre in omega (arith, p .1 .0 .0, p .0 .job .sized .claimsMost, c₁ .cursor-at .ensures .small)
 
-add-store-word : tie.Need-add-store-word
-add-store-word c = search needs
+past-rule-requires : tie.Need-past-rule-requires
+past-rule-requires c κs =
+    let c₁ = c .before .before .before .before .before in
+    let c₂ = c₁ .before .before .before .before in
+    let a = c₂ .args in
+    let p = c₂ .pre in
+    omega (arith, next-there (a .job .now) (a .index .now) (p .0 .job) (p .0 .indexed) (a .c) (p .1 .0 .0) _ (p .1 .1 .1) (c₁ .cursor-at .ensures .value) (c .before .over .ensures), p .0 .job .sized .literalsMost)
 
-store-word-requires : tie.Need-store-word-requires
-store-word-requires c κs =
-    let o = c .before .before in
-    let s = o .before .before .before .before .before .before in
-    let m = skip-most (s .args .job .now) (s .args .table .now) (s .args .w) (s .args .c) (s .pre .1 .1 .1) (o .before .before .cursor-at .ensures .value) (o .rule-over .ensures) in
-    omega (arith, room _ _ (s .pre .0 .table), s .pre .1 .0 .0, m, lits-few (s .args .job .now) (s .args .index .now) (s .args .table .now) (s .pre .0) (s .args .c) (s .pre .1 .0 .0))
+move-to-requires : tie.Need-move-to-requires
+move-to-requires c κs =
+    let c₁ = c .before .before .before .before in
+    let c₂ = c₁ .before .before .before .before .before .before in
+    let a = c₂ .args in
+    let p = c₂ .pre in
+    ((omega (arith, p .1 .0 .0, p .0 .job .sized .claimsMost), omega (arith, room _ _ (p .0 .table), p .1 .0 .0)), skip-low (a .job .now) (a .index .now) (a .table .now) (p .0) (a .w) (a .c) (p .1 .0 .0) (p .1 .1 .1) (c₁ .before .before .cursor-at .ensures .value) (c₁ .rule-failed .ensures) (c .before .before .over .ensures) (c .past-rule .ensures))
 
 same-length : tie.Need-same-length
 same-length c = search needs
 
 returns : tie.Need-returns
 returns c =
-    let o = c .before .before .before .before .before in
-    let s = o .before .before .before .before .before .before in
-    pass-skipped (s .args .job .now) (s .args .table .now) (s .args .w) (s .args .c) (s .pre .1 .1 .1) (o .before .before .cursor-at .ensures .value) (o .rule-over .ensures) (c .before .before .before .before .if1 .taken) (c .before .before .store-word .ensures)
+    let c₁ = c .before .before .before in
+    let c₂ = c₁ .before .before .before in
+    let c₃ = c₂ .before .before .before in
+    let c₄ = c₃ .before .before .before .before in
+    let a = c₄ .args in
+    let p = c₄ .pre in
+    pass-skipped (a .job .now) (a .index .now) (a .table .now) (p .0) (a .w) (a .c) (p .1 .0 .0) (p .1 .1 .1) (c₃ .cursor-at .ensures .value) (c₂ .before .rule-failed .ensures) (c₁ .before .before .over .ensures) (c₁ .past-rule .ensures) (c₂ .if1 .taken) (c .before .before .move-to .ensures)
 
 pass-clear-requires : tie.Need-pass-clear-requires
 pass-clear-requires c κs =
-    let o = c .before .before in
-    let s = o .before .before .before .before .before .before in
-    let f = pass-clear (s .args .job .now) (s .args .table .now) (s .args .w) (s .args .c) (s .pre .1 .1 .1) (o .before .before .cursor-at .ensures .value) (o .rule-over .ensures) (c .before .if1 .left) in
-    (s .pre .0, (s .pre .1 .0, (s .pre .1 .1, f)))
+    let c₁ = c .before .before .before .before in
+    let c₂ = c₁ .before .before .before .before in
+    let a = c₂ .args in
+    let p = c₂ .pre in
+    let f = pass-clear (a .job .now) (a .index .now) (a .table .now) (p .0) (a .w) (a .c) (p .1 .0 .0) (p .1 .1 .1) (c₁ .cursor-at .ensures .value) (c .before .before .rule-failed .ensures) (c .before .if1 .left) in
+    (p .0, (p .1 .0, (p .1 .1, f)))
 
 same-length-2 : tie.Need-same-length-2
 same-length-2 c = search needs
@@ -54,10 +70,10 @@ pass-turn-spec =
     tie.close
     (tie.spec
     cursor-at-requires
-    rule-over-requires
-    mul-store-word
-    add-store-word
-    store-word-requires
+    rule-failed-requires
+    over-requires
+    past-rule-requires
+    move-to-requires
     same-length
     returns
     pass-clear-requires
