@@ -25,12 +25,12 @@ use Rattle.model.specs.Positions.{keys, owners}
 use Rattle.model.specs.Queues.{seen, Queue}
 use Rattle.model.specs.Counters.{Raised}
 use Rattle.model.specs.Doubts.{Doubted, Lost}
-use Rattle.model.specs.Rounds.{Rising, Round, Upper, aimK, Poised, Risen, Shrunk}
+use Rattle.model.specs.Rounds.{Rising, Upper, aimK, Poised, Risen, Shrunk}
 use Rattle.model.proofs.Queues.{seen-none, seen-at}
 use Rattle.model.proofs.Roles.{closed-need}
 use Rattle.model.proofs.Grown.{growing-counts, growing-from, growing-lost}
 use Rattle.model.proofs.Shrinking.{risen-by}
-use Rattle.model.proofs.Rounds.{rising-next, rising-stays}
+use Rattle.model.proofs.Rounds.{Round, rising-next, rising-stays}
 
 -- an empty queue, and doubted claims, for as many claims as u has
 pub lose-ready :

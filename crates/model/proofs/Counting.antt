@@ -14,7 +14,8 @@ use lib.ListN.{length, getD, set, length-set}
 use lib.Seq.{getD-set-same, getD-set-other}
 use Rattle.base.proofs.Sets.{count-le}
 use Rattle.job.specs.Format.{rules, literals}
-use Rattle.model.specs.Positions.{Owned, waiting, Counts}
+use Rattle.model.specs.Positions.{waiting, Counts}
+use Rattle.model.proofs.Owning.{Owned}
 use Rattle.model.proofs.Waiting.{waiting-same, waiting-less, waiting-other}
 
 -- counters that count the same

@@ -18,10 +18,11 @@ use Rattle.base.proofs.Bools.{is, is-false}
 use Rattle.base.proofs.ByteSets.{set-gone, set-same}
 use Rattle.job.specs.Accepted.{WellFormed}
 use Rattle.job.specs.Format.{claims, rules, literals, headAt}
-use Rattle.model.specs.Positions.{keyAt, Owned}
+use Rattle.model.specs.Positions.{keyAt}
 use Rattle.model.specs.Queues.{seen, pending}
 use Rattle.model.specs.Counters.{lacking}
 use Rattle.model.specs.Doubts.{Stand, Left, Falling}
+use Rattle.model.proofs.Owning.{Owned}
 use Rattle.model.proofs.Counting.{counts-same, counts-owe, counts-most}
 use Rattle.model.proofs.Positions.{lacking-plain, lacking-same, lacking-gone}
 use Rattle.model.proofs.Queues.{seen-at, seen-other, queue-room, queue-push, pending-skip, pending-here, pending-gone, pending-other, pending-this}

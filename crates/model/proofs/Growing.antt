@@ -18,9 +18,10 @@ use Rattle.base.proofs.Bools.{neither}
 use Rattle.base.proofs.ByteSets.{set-same, set-within}
 use Rattle.job.specs.Accepted.{WellFormed}
 use Rattle.job.specs.Format.{claims, rules, literals, headAt}
-use Rattle.model.specs.Positions.{keyAt, Owned, waiting}
+use Rattle.model.specs.Positions.{keyAt, waiting}
 use Rattle.model.specs.Queues.{seen, pending, Joined}
 use Rattle.model.specs.Counters.{lacking, Aim, Growing}
+use Rattle.model.proofs.Owning.{Owned}
 use Rattle.model.proofs.Joining.{fits-unseen, fits-room, fits-join}
 use Rattle.model.proofs.Waiting.{waiting-done}
 use Rattle.model.proofs.Counting.{counts-same, counts-some, counts-pay}

@@ -21,13 +21,13 @@ use Rattle.job.specs.declared.Literal.{Literal}
 use Rattle.job.specs.declared.Literal.the-variants.{Plain, Negated}
 use Rattle.semantics.specs.Model.{holds, D}
 use Rattle.model.specs.Exchanged.{givenProgram}
-use Rattle.model.specs.Positions.{keyOf, keyAt, keys, owners, Owned, Counts, needBase, failBase}
+use Rattle.model.specs.Positions.{keyOf, keyAt, keys, owners, Counts, needBase, failBase}
 use Rattle.model.specs.Queues.{seen, Queue, pending, Joins, none, more}
 use Rattle.model.specs.Counters.{lacking, Aim, Closed, Ready, Growing, Given, Idle}
 use Rattle.semantics.proofs.LeastSet.{D-least}
 use Rattle.model.proofs.Counting.{counts-same}
 use Rattle.model.proofs.Lacking.{nothing-lacks}
-use Rattle.model.proofs.Owning.{owners-owned}
+use Rattle.model.proofs.Owning.{Owned, owners-owned}
 use Rattle.model.proofs.Roles.{covers-need, covers-fail}
 use Rattle.model.proofs.Queues.{seen-none, pending-end, pending-start}
 use Rattle.model.proofs.Beginning.{fits-empty, given-true, given-undefined}

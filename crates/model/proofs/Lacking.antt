@@ -19,8 +19,9 @@ use Rattle.job.specs.Format.{rules, literals, literalAt}
 use Rattle.job.specs.Accepted.{WellFormed}
 use Rattle.job.proofs.Parts.{body-within}
 use Rattle.semantics.specs.Model.{holds}
-use Rattle.model.specs.Positions.{Within, Owned, waiting, Counts}
+use Rattle.model.specs.Positions.{Within, waiting, Counts}
 use Rattle.model.specs.Counters.{lacking}
+use Rattle.model.proofs.Owning.{Owned}
 use Rattle.model.proofs.Waiting.{waiting-done, waiting-none}
 
 -- bodies follow each other

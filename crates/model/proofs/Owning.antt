@@ -1,7 +1,8 @@
 -- Rules, their positions and their counters at the start (specs/Positions). Assumes nothing.
 --   count-shift           two sets that agree from a on count alike from there on
 --   count-every           all positions count
---   owner-of              `owners` has the rule of each position
+--   Owned s own           `own` has the rule of each position
+--   owner-of              `owners` has it
 --   owners-owned          so it is a list of the rules of positions
 --   owner-is              a position in a rule's body is that rule's
 --   waiting-body          a rule waits for what is due in its body
@@ -26,10 +27,13 @@ use Rattle.base.proofs.Sets.{count-empty, count-none}
 use Rattle.base.proofs.Span.{length-span, getD-span}
 use Rattle.job.specs.Format.{rules, literals, bodyStart, bodyLengthAt}
 use Rattle.job.specs.Accepted.{WellFormed}
-use Rattle.job.proofs.Parts.{bodyStart-next, body-within}
+use Rattle.job.proofs.Parts.{body-first, bodyStart-next, body-within}
 use Rattle.job.proofs.Contiguous.{three}
-use Rattle.model.specs.Positions.{ownerAt, owners, Within, Owned, waiting, Counts, everyPosition}
-use Rattle.job.proofs.Parts.{body-first}
+use Rattle.model.specs.Positions.{ownerAt, owners, Within, waiting, Counts, everyPosition}
+
+pub record Owned (s own : List ℕ) : Type 0 where
+  pub long : literals s ≤ length own
+  pub owner : (p : ℕ) → p < literals s → Within s p (getD own p 0)
 
 pub count-shift :
     (f g : Claims) (a b : ℕ) → a ≤ b → ((p : ℕ) → a ≤ p → p < b → g p ≡ f p) → count g b + count f a ≡ count f b + count g a

@@ -16,11 +16,11 @@ use lib.Seq.{getD-set-same, getD-set-other}
 use Rattle.base.specs.Sets.{_⊆_, setOf}
 use Rattle.job.specs.Accepted.{WellFormed}
 use Rattle.job.specs.Format.{claims, rules, literals, headAt}
-use Rattle.model.specs.Positions.{keyAt, tally, startOf, owners, Owned, Placed}
+use Rattle.model.specs.Positions.{keyAt, tally, startOf, owners, Placed}
 use Rattle.model.specs.Queues.{Joined, Fits}
 use Rattle.model.specs.Counters.{Aim, Ready, Growing, Paid, Carried, Raised}
 use Rattle.model.proofs.Occurring.{occ-first, occ-done, start-most}
-use Rattle.model.proofs.Owning.{owners-owned}
+use Rattle.model.proofs.Owning.{Owned, owners-owned}
 use Rattle.model.proofs.Walking.{Found, found}
 use Rattle.model.proofs.Queues.{pending-skip, pending-next}
 use Rattle.model.proofs.Joining.{fits-room, joined-grown, joined-there, joined-old, joined-up, grown-refl, grown-trans}

@@ -1,4 +1,5 @@
 -- Rounds of the alternation, from W to the next (specs/Rounds). Assumes nothing.
+--   Round P W U′ K′           what a round from W makes: U′ = D(W), then K′ = D(U′), which is the next W
 --   rising-start, -next       the empty set, and the set after a round
 --   rising-below              W is inside the next U′
 --   rising-stays              a round whose U′ stays has come to K and U
@@ -7,9 +8,13 @@ use mathlib.Core.Path.{_≡_, sym, _∙_, ap, subst⁻¹}
 use lib.Dec.{T}
 use Rattle.base.specs.Sets.{Claims, _⊆_}
 use Rattle.semantics.specs.Model.{Program, D, K, U}
-use Rattle.model.specs.Rounds.{Rising, Round}
+use Rattle.model.specs.Rounds.{Rising}
 use Rattle.semantics.proofs.LeastSet.{D-antitone}
 use Rattle.semantics.proofs.Alternation.{K-fix, U-fix, K⊆U, closed-K}
+
+pub record Round (P : Program) (W U′ K′ : Claims) : Type 0 where
+  pub nextU : U′ ≡ D P W
+  pub nextK : K′ ≡ D P U′
 
 pub rising-start : (P : Program) (W : Claims) → ((c : ℕ) → T (W c) → ⊥) → Rising P W
 rising-start P W empty = record { below = λ c t. absurd (empty c t); rises = λ c t. absurd (empty c t) }

@@ -25,7 +25,7 @@ use Rattle.model.specs.Positions.{keyOf, keyAt, keys, owners, Counts, fa
 use Rattle.model.specs.Queues.{seen, pending}
 use Rattle.model.specs.Counters.{lacking, Aim, Ready, Growing, Raised, Idle, givenTo}
 use Rattle.model.specs.Doubts.{Stand, Falling, Sunk, Negations, Recovered}
-use Rattle.model.specs.Rounds.{Round, Upper, aimK, Poised, Risen, Course, Fell}
+use Rattle.model.specs.Rounds.{Upper, aimK, Poised, Risen, Course, Fell}
 use Rattle.model.proofs.Beginning.{given-some, given-is}
 use Rattle.model.proofs.Counting.{counts-same}
 use Rattle.model.proofs.Queues.{pending-end, pending-start}
@@ -37,7 +37,7 @@ use Rattle.model.proofs.Grown.{growing-counts, growing-from, growing-jo
 use Rattle.model.proofs.Leaving.{fallen-front}
 use Rattle.model.proofs.Sinking.{sunk-fewer}
 use Rattle.model.proofs.Remaining.{sunk}
-use Rattle.model.proofs.Rounds.{rising-below, rising-next}
+use Rattle.model.proofs.Rounds.{Round, rising-below, rising-next}
 
 -- a missing record counts nothing for U, so its head is in U
 missing-in : (s g : List ℕ) (K : Claims) (fail u : List ℕ) → WellFormed s → Upper s g K fail u → (r : ℕ) → r < rules s → failBase s g r ≡ 0 → missingAt s r ≡ true → T (setOf u (headAt s r))

@@ -17,11 +17,11 @@ use lib.Seq.{getD-set-other}
 use Rattle.base.specs.Sets.{Claims, _⊆_, setOf}
 use Rattle.job.specs.Accepted.{WellFormed}
 use Rattle.job.specs.Format.{claims, rules, literals, headAt}
-use Rattle.model.specs.Positions.{keyAt, keys, tally, startOf, owners, Owned, Placed}
+use Rattle.model.specs.Positions.{keyAt, keys, tally, startOf, owners, Placed}
 use Rattle.model.specs.Doubts.{Stand, stays, Left, Owed, Falling, Kept, Sunk}
 use Rattle.model.proofs.Queues.{queue-top, pending-skip, pending-next}
 use Rattle.model.proofs.Occurring.{occ-first, occ-done, start-most}
-use Rattle.model.proofs.Owning.{owners-owned}
+use Rattle.model.proofs.Owning.{Owned, owners-owned}
 use Rattle.model.proofs.Walking.{Found, found}
 use Rattle.model.proofs.Raising.{carried-on}
 use Rattle.model.proofs.Leaving.{stays-no, left-old, left-up, left-fewer, left-out, left-fallen, fallen-refl, fallen-trans, fallen-fewer}
