@@ -21,12 +21,12 @@ use Rattle.job.specs.Format.{claims, literals}
 use Rattle.semantics.specs.Model.{D, K, U}
 use Rattle.semantics.proofs.LeastSet.{D-antitone}
 use Rattle.model.specs.Exchanged.{givenProgram}
-use Rattle.model.specs.Positions.{keys, owners}
-use Rattle.model.specs.Queues.{seen, Queue}
-use Rattle.model.specs.Counters.{Raised}
-use Rattle.model.specs.Doubts.{Doubted, Lost}
+use Rattle.counters.specs.Positions.{keys, owners}
+use Rattle.counters.specs.Queues.{seen, Queue}
+use Rattle.counters.specs.Counters.{Raised}
+use Rattle.counters.specs.Doubts.{Doubted, Lost}
 use Rattle.model.specs.Rounds.{Rising, Upper, aimK, Poised, Risen, Shrunk}
-use Rattle.model.proofs.Queues.{seen-none, seen-at}
+use Rattle.counters.proofs.Queues.{seen-none, seen-at}
 use Rattle.model.proofs.Roles.{closed-need}
 use Rattle.model.proofs.Grown.{growing-counts, growing-from, growing-lost}
 use Rattle.model.proofs.Shrinking.{risen-by}

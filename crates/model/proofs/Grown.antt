@@ -21,17 +21,17 @@ use Rattle.job.specs.declared.Literal.{Literal}
 use Rattle.job.specs.declared.Literal.the-variants.{Plain, Negated}
 use Rattle.semantics.specs.Model.{holds, D}
 use Rattle.model.specs.Exchanged.{givenProgram}
-use Rattle.model.specs.Positions.{keyOf, keyAt, keys, owners, Counts, needBase, failBase}
-use Rattle.model.specs.Queues.{seen, Queue, pending, Joins, none, more}
-use Rattle.model.specs.Counters.{lacking, Aim, Closed, Ready, Growing, Given, Idle}
+use Rattle.counters.specs.Positions.{keyOf, keyAt, keys, owners, Counts, needBase, failBase}
+use Rattle.counters.specs.Queues.{seen, Queue, pending, Joins, none, more}
+use Rattle.counters.specs.Counters.{lacking, Aim, Closed, Ready, Growing, Given, Idle}
 use Rattle.semantics.proofs.LeastSet.{D-least}
-use Rattle.model.proofs.Counting.{counts-same}
-use Rattle.model.proofs.Lacking.{nothing-lacks}
-use Rattle.model.proofs.Owning.{Owned, owners-owned}
+use Rattle.counters.proofs.Counting.{counts-same}
+use Rattle.counters.proofs.Lacking.{nothing-lacks}
+use Rattle.counters.proofs.Owning.{Owned, owners-owned}
 use Rattle.model.proofs.Roles.{covers-need, covers-fail}
-use Rattle.model.proofs.Queues.{seen-none, pending-end, pending-start}
-use Rattle.model.proofs.Beginning.{fits-empty, given-true, given-undefined}
-use Rattle.model.proofs.Growing.{growing-joined, growing-fires}
+use Rattle.counters.proofs.Queues.{seen-none, pending-end, pending-start}
+use Rattle.counters.proofs.Beginning.{fits-empty, given-true, given-undefined}
+use Rattle.counters.proofs.Growing.{growing-joined, growing-fires}
 
 pub growing-counts :
     {s : List ℕ} {a : Aim} {own cnt w q : List ℕ} {x t : ℕ} → Growing s a own cnt w q t x t → Counts s own cnt (a .base) (lacking s (a .against) (setOf w))

@@ -2,8 +2,8 @@
 --   stage-in   what is derived in some steps is in D(S)
 --   again      a claim that a step against K₀ gave, and that is left, comes by a step against K
 --   sunk       what is left is in D(K)
-use Rattle.model.proofs.Owning.{Owned}
-use Rattle.model.proofs.Positions.{holds-wider}
+use Rattle.counters.proofs.Owning.{Owned}
+use Rattle.counters.proofs.Positions.{holds-wider}
 use Prim.Native.Nat.{ℕ, zero, suc, _<_}
 use mathlib.Core.Path.{_≡_, subst, subst⁻¹}
 use mathlib.Core.List.{List}
@@ -19,11 +19,11 @@ use Rattle.job.specs.declared.Literal.the-variants.{Plain, Negated}
 use Rattle.semantics.specs.Model.{Program, holds, step, D}
 use Rattle.semantics.proofs.LeastSet.{step-more, D-closed}
 use Rattle.model.specs.Exchanged.{givenProgram}
-use Rattle.model.specs.Positions.{Within, Counts, failBase}
-use Rattle.model.specs.Counters.{lacking}
-use Rattle.model.specs.Doubts.{Kept}
+use Rattle.counters.specs.Positions.{Within, Counts, failBase}
+use Rattle.counters.specs.Counters.{lacking}
+use Rattle.counters.specs.Doubts.{Kept}
 use Rattle.model.proofs.Steps.{step-rule, step-missing, step-true, step-undefined, ByStep, by-true, by-undefined, by-rule, by-missing, rule-of-step}
-use Rattle.model.proofs.Lacking.{nothing-lacks, all-hold}
+use Rattle.counters.proofs.Lacking.{nothing-lacks, all-hold}
 
 stage-in : (P : Program) (S : Claims) (n : ℕ) → iterate (step P S) n ⊆ D P S
 unfolding iterate

@@ -19,8 +19,8 @@ use Rattle.semantics.specs.Model.{holds, step, D}
 use Rattle.semantics.proofs.LeastSet.{D-closed}
 use Rattle.semantics.proofs.Extended.{either}
 use Rattle.model.specs.Exchanged.{givenProgram}
-use Rattle.model.specs.Positions.{Within, failBase, needBase}
-use Rattle.model.specs.Counters.{Closed}
+use Rattle.counters.specs.Positions.{Within, failBase, needBase}
+use Rattle.counters.specs.Counters.{Closed}
 use Rattle.model.proofs.Steps.{need-parts, need-none, step-rule, step-missing, ByStep, by-true, by-undefined, by-rule, by-missing, rule-of-step}
 
 module _ (s g : List ℕ) (good : WellFormed s) (S : Claims) where

@@ -21,21 +21,21 @@ use Rattle.job.specs.declared.Literal.the-variants.{Plain, Negated}
 use Rattle.job.proofs.Lengths.{missing-none}
 use Rattle.semantics.specs.Model.{holds, D}
 use Rattle.model.specs.Exchanged.{givenProgram}
-use Rattle.model.specs.Positions.{keyOf, keyAt, keys, owners, Counts, failBase}
-use Rattle.model.specs.Queues.{seen, pending}
-use Rattle.model.specs.Counters.{lacking, Aim, Ready, Growing, Raised, Idle, givenTo}
-use Rattle.model.specs.Doubts.{Stand, Falling, Sunk, Negations, Recovered}
+use Rattle.counters.specs.Positions.{keyOf, keyAt, keys, owners, Counts, failBase}
+use Rattle.counters.specs.Queues.{seen, pending}
+use Rattle.counters.specs.Counters.{lacking, Aim, Ready, Growing, Raised, Idle, givenTo}
+use Rattle.counters.specs.Doubts.{Stand, Falling, Sunk, Negations, Recovered}
 use Rattle.model.specs.Rounds.{Upper, aimK, Poised, Risen, Course, Fell}
-use Rattle.model.proofs.Beginning.{given-some, given-is}
-use Rattle.model.proofs.Counting.{counts-same}
-use Rattle.model.proofs.Queues.{pending-end, pending-start}
-use Rattle.model.proofs.Owning.{owners-owned}
-use Rattle.model.proofs.Lacking.{nothing-lacks, all-hold}
+use Rattle.counters.proofs.Beginning.{given-some, given-is}
+use Rattle.counters.proofs.Counting.{counts-same}
+use Rattle.counters.proofs.Queues.{pending-end, pending-start}
+use Rattle.counters.proofs.Owning.{owners-owned}
+use Rattle.counters.proofs.Lacking.{nothing-lacks, all-hold}
 use Rattle.model.proofs.Roles.{closed-fail}
-use Rattle.model.proofs.Joining.{joins-grown}
+use Rattle.counters.proofs.Joining.{joins-grown}
 use Rattle.model.proofs.Grown.{growing-counts, growing-from, growing-joins, grown-K, grown-U, idle-in}
-use Rattle.model.proofs.Leaving.{fallen-front}
-use Rattle.model.proofs.Sinking.{sunk-fewer}
+use Rattle.counters.proofs.Leaving.{fallen-front}
+use Rattle.counters.proofs.Sinking.{sunk-fewer}
 use Rattle.model.proofs.Remaining.{sunk}
 use Rattle.model.proofs.Rounds.{Round, rising-below, rising-next}
 

@@ -23,16 +23,16 @@ use Rattle.job.specs.declared.Literal.the-variants.{Plain, Negated}
 use Rattle.semantics.specs.Model.{holds, D}
 use Rattle.semantics.proofs.LeastSet.{D-closed}
 use Rattle.model.specs.Exchanged.{givenProgram}
-use Rattle.model.specs.Positions.{keys, owners, Counts, needBase, failBase, plainLiteral, plainPosition, everyPosition}
-use Rattle.model.specs.Queues.{seen, Queue, Grown}
-use Rattle.model.specs.Counters.{lacking, Aim, Closed, Growing, Raised, Idle, Given, Begun}
-use Rattle.model.specs.Doubts.{Doubted, Lost}
+use Rattle.counters.specs.Positions.{keys, owners, Counts, needBase, failBase, plainLiteral, plainPosition, everyPosition}
+use Rattle.counters.specs.Queues.{seen, Queue, Grown}
+use Rattle.counters.specs.Counters.{lacking, Aim, Closed, Growing, Raised, Idle, Given, Begun}
+use Rattle.counters.specs.Doubts.{Doubted, Lost}
 use Rattle.model.specs.Rounds.{Upper, Poised}
-use Rattle.model.proofs.Counting.{counts-same}
-use Rattle.model.proofs.Queues.{seen-none, seen-small}
-use Rattle.model.proofs.Owning.{owners-owned}
-use Rattle.model.proofs.Joining.{joins-grown}
-use Rattle.model.proofs.Beginning.{given-byte}
+use Rattle.counters.proofs.Counting.{counts-same}
+use Rattle.counters.proofs.Queues.{seen-none, seen-small}
+use Rattle.counters.proofs.Owning.{owners-owned}
+use Rattle.counters.proofs.Joining.{joins-grown}
+use Rattle.counters.proofs.Beginning.{given-byte}
 use Rattle.model.proofs.Steps.{step-true, step-undefined}
 use Rattle.model.proofs.Roles.{closed-need, closed-fail}
 use Rattle.model.proofs.Grown.{growing-counts, growing-from, growing-joins, growing-lost, grown-U, idle-in}

@@ -30,7 +30,7 @@ use Rattle.semantics.proofs.Bodies.{bodies-at, bodies-out}
 use Rattle.semantics.proofs.LeastSet.{step-inside, step-of, step-by}
 use Rattle.semantics.proofs.Extended.{either, body-missing, body-own}
 use Rattle.model.specs.Exchanged.{givenProgram}
-use Rattle.model.specs.Positions.{Within, failBase, needBase}
+use Rattle.counters.specs.Positions.{Within, failBase, needBase}
 use Rattle.semantics.proofs.Known.{verdict-none, verdict-true, verdict-false, verdict-undefined}
 
 pub claims-given : (s g : List ℕ) → givenProgram s g .claims ≡ claims s

@@ -1,9 +1,4 @@
 pub mod Exchanged
 pub mod Output
-pub mod Positions
-pub mod Placing
-pub mod Queues
-pub mod Counters
-pub mod Doubts
 pub mod Rounds
 pub mod Rooms

@@ -8,11 +8,11 @@ ghost use Rattle.base.specs.Sets.{nothing, setOf};
 ghost use Rattle.job.specs.Accepted.{WellFormed};
 ghost use Rattle.semantics.specs.Model.{K, U};
 ghost use Rattle.model.specs.Exchanged.{givenProgram};
-ghost use Rattle.model.specs.Positions.{keys, Placed, Ends};
+ghost use Rattle.counters.specs.Positions.{keys, Placed, Ends};
 ghost use Rattle.model.specs.Rounds.{Upper, Poised, Risen, Course, Fell, Regained, Shrunk, BlankU, BlankK};
-use crate::derive;
-use crate::doubt;
-use crate::recover;
+use counters::derive;
+use counters::doubt;
+use counters::recover;
 
 // Doubted claims that a rule holds up come back, and those that they hold up: u is D(K) again.
 fn regain(

@@ -10,8 +10,8 @@ ghost use Rattle.model.specs.Output.{knownOutput};
 ghost use Rattle.model.specs.Rooms.{Within};
 ghost use Rattle.model.specs.Rounds.{Unused};
 use crate::alternate;
-use crate::occurrences;
 use crate::verdicts;
+use counters::occurrences;
 use job::format;
 
 // The rooms: at most so many claims, rules and positions (literals), and one more than there are keys.

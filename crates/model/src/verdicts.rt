@@ -4,10 +4,10 @@ ghost use Prim.Native.Nat.{_≤_};
 ghost use lib.ListN.{length};
 ghost use Rattle.base.specs.Sets.{setOf};
 ghost use Rattle.model.specs.Output.{judgedByte, judgedOutput};
-use crate::FALSE;
-use crate::TRUE;
-use crate::UNDEFINED;
 use base::byte_sets;
+use counters::FALSE;
+use counters::TRUE;
+use counters::UNDEFINED;
 
 // The byte of claim c's verdict, by K and U.
 fn byte_of(k: &[u8], u: &[u8], c: usize) -> u8

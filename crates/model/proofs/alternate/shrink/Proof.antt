@@ -1,7 +1,7 @@
 -- `model::alternate::shrink` meets its contract. Assumes nothing.
 use native.Mathlib.Omega.{arith}
 use Rattle.base.specs.Sets.{setOf}
-use Rattle.model.proofs.Queues.{queue-top}
+use Rattle.counters.proofs.Queues.{queue-top}
 use Rattle.model.proofs.Shrinking.{risen-falling, fell-by, fell-left}
 use Rattle.model.proofs.Alternating.{lose-ready, shrunk-by}
 use borrow.Author.Needs.{needs}

@@ -1,0 +1,233 @@
+-- A U that shrinks, for every base at once (specs/Doubts: Kept, Sunk). Assumes nothing.
+--   sunk-start, -trans          nothing done, and one after the other
+--   sunk-skip, -step, -next     a key's positions: past those of others, one that fails, and on to the next key
+--   sunk-most, -room, -top      what a step asks for; sunk-end   all keys are done
+--   sunk-fewer                  the set has no more claims than before
+--   Failing, failing-..         the places of one key, as `fall` walks them
+use Prim.Native.Nat.{ℕ, _+_, _-_, _<_, _≤_}
+use mathlib.Core.Path.{_≡_, refl, sym, _∙_, subst, subst⁻¹}
+use mathlib.Core.Bool.{false}
+use mathlib.Core.List.{List}
+use mathlib.Core.Logic.{by-cases}
+use native.Mathlib.Omega.{arith}
+use native.Mathlib.Decide.{ℕ-discrete}
+use lib.Dec.{T}
+use lib.ListN.{length, getD, set}
+use lib.Seq.{getD-set-other}
+use Rattle.base.specs.Sets.{Claims, _⊆_, setOf}
+use Rattle.job.specs.Accepted.{WellFormed}
+use Rattle.job.specs.Format.{claims, rules, literals, headAt}
+use Rattle.counters.specs.Positions.{keyAt, keys, tally, startOf, owners, Placed}
+use Rattle.counters.specs.Doubts.{Stand, stays, Left, Owed, Falling, Kept, Sunk}
+use Rattle.counters.proofs.Queues.{queue-top, pending-skip, pending-next}
+use Rattle.counters.proofs.Occurring.{occ-first, occ-done, start-most}
+use Rattle.counters.proofs.Owning.{Owned, owners-owned}
+use Rattle.counters.proofs.Walking.{Found, found}
+use Rattle.counters.proofs.Raising.{carried-on}
+use Rattle.counters.proofs.Leaving.{stays-no, left-old, left-up, left-fewer, left-out, left-fallen, fallen-refl, fallen-trans, fallen-fewer}
+use Rattle.counters.proofs.Falling.{falling-room, falling-most, falling-left, falling-owe, falling-due, falling-free}
+
+kept-trans : {s : List ℕ} {K : Claims} {cnt₀ cnt₁ cnt₂ u₁ u₂ : List ℕ} → setOf u₂ ⊆ setOf u₁ → Kept s K cnt₀ cnt₁ u₁ → Kept s K cnt₁ cnt₂ u₂ → Kept s K cnt₀ cnt₂ u₂
+kept-trans {s} fewer a b = record { kept = λ r l z v n. b .kept r l (a .kept r l z (fewer (headAt s r) v) n) v n }
+
+module _ (s k own cnt₀ u₀ q₀ : List ℕ) (i₀ t₀ : ℕ) where
+  pub sunk-start :
+      ((b : Stand) × Falling s b (setOf k) own cnt₀ u₀ q₀ i₀ (literals s) t₀) → Sunk s k own cnt₀ u₀ q₀ i₀ t₀ cnt₀ u₀ q₀ i₀ (literals s) t₀
+  sunk-start some =
+      record { carried = record { some = some; each = λ b x. x }; fallen = fallen-refl u₀ q₀ t₀; kept = record { kept = λ r l z v n. z } }
+
+  module _ (cnt u q : List ℕ) (i x t : ℕ) where
+    pub sunk-fewer : Sunk s k own cnt₀ u₀ q₀ i₀ t₀ cnt u q i x t → setOf u ⊆ setOf u₀
+    sunk-fewer now = fallen-fewer (now .fallen) (now .carried .some .1 .plain)
+
+    pub sunk-top : Sunk s k own cnt₀ u₀ q₀ i₀ t₀ cnt u q i x t → t ≤ keys s
+    sunk-top now = queue-top (now .carried .some .1 .queue)
+
+    pub sunk-end : i ≤ t → t ≤ i → Sunk s k own cnt₀ u₀ q₀ i₀ t₀ cnt u q i x t → Sunk s k own cnt₀ u₀ q₀ i₀ t₀ cnt u q t x t
+    sunk-end l m = let e : i ≡ t = omega arith in subst (λ (j : ℕ). Sunk s k own cnt₀ u₀ q₀ i₀ t₀ cnt u q j x t) e
+
+  module _ (cnt u q : List ℕ) (i t : ℕ) where
+    -- other positions that are pending, but for none of the job's
+    due-on :
+        (x j y : ℕ) → ((b : Stand) → Falling s b (setOf k) own cnt u q i x t → Falling s b (setOf k) own cnt u q j y t)
+        → Sunk s k own cnt₀ u₀ q₀ i₀ t₀ cnt u q i x t → Sunk s k own cnt₀ u₀ q₀ i₀ t₀ cnt u q j y t
+    due-on x j y f now = record { carried = carried-on (now .carried) f; fallen = now .fallen; kept = now .kept }
+
+    -- positions from y to x that don't have the key make no difference
+    pub sunk-skip :
+        (x y : ℕ) → y ≤ x → ((p : ℕ) → y ≤ p → p < x → keyAt s p ≡ getD q i 0 → ⊥) → Sunk s k own cnt₀ u₀ q₀ i₀ t₀ cnt u q i x t
+        → Sunk s k own cnt₀ u₀ q₀ i₀ t₀ cnt u q i y t
+    sunk-skip x y l f = due-on x i y (λ b. falling-due s b (setOf k) own cnt u q i x t i y (λ p m. pending-skip s q t i y x l p (f p)))
+
+    pub sunk-next : (x : ℕ) → x ≤ 0 → Sunk s k own cnt₀ u₀ q₀ i₀ t₀ cnt u q i x t → Sunk s k own cnt₀ u₀ q₀ i₀ t₀ cnt u q (i + 1) (literals s) t
+    sunk-next x l now =
+        let e : x ≡ 0 = omega arith in
+        due-on 0 (i + 1) (literals s)
+        (λ b. falling-due s b (setOf k) own cnt u q i 0 t (i + 1) (literals s) (λ p m. pending-next s q t i (literals s) p m))
+        (subst (λ (y : ℕ). Sunk s k own cnt₀ u₀ q₀ i₀ t₀ cnt u q i y t) e now)
+
+    module _ (p : ℕ) (good : WellFormed s) (owned : Owned s own) (now : Sunk s k own cnt₀ u₀ q₀ i₀ t₀ cnt u q i (p + 1) t) (inside : i < t) (l : p < literals s) (here : keyAt s p ≡ getD q i 0) where
+      r : ℕ
+      r = getD own p 0
+
+      below : r < rules s
+      unfolding r
+      below = owned .owner p l .below
+
+      head-in : headAt s r < claims s
+      head-in = good .head r below
+
+      head-has : headAt s r < length u
+      head-has = omega (arith, head-in, now .carried .some .1 .size)
+
+      room : stays k u (headAt s r) ≡ false → t < length q
+      room e = falling-room (now .carried .some .1) (headAt s r) head-in (stays-no k u (headAt s r) e .0)
+
+      pub sunk-most : getD cnt (getD own p 0) 0 < 65535
+      unfolding r
+      sunk-most = falling-most (now .carried .some .1) good r below
+
+      pub sunk-room : stays k u (headAt s (getD own p 0)) ≡ false → t < length q
+      unfolding r
+      sunk-room = room
+
+      cnt₁ : List ℕ
+      cnt₁ = set cnt (getD own p 0) (getD cnt (getD own p 0) 0 + 1)
+
+      owed : (b : Stand) → Falling s b (setOf k) own cnt u q i (p + 1) t → Falling s b (setOf k) own cnt₁ u q i p t
+      unfolding cnt₁
+      owed b f = falling-owe s b (setOf k) own cnt u q i p t owned f inside l here
+
+      -- the rule that counts one more, and the others
+      kept-but :
+          (u′ : List ℕ) → setOf u′ ⊆ setOf u → (getD cnt r 0 ≡ 0 → T (setOf u′ (headAt s r)) → (T (setOf k (headAt s r)) → ⊥) → ⊥)
+          → Kept s (setOf k) cnt₀ cnt₁ u′
+      unfolding cnt₁ r
+      kept-but u′ fewer this =
+          record {
+            kept = λ x m z v n.
+                let old : getD cnt x 0 ≡ 0 = now .kept .kept x m z (fewer (headAt s x) v) n in
+                by-cases (ℕ-discrete x (getD own p 0))
+                (λ e.
+                absurd
+                (this (subst (λ (y : ℕ). getD cnt y 0 ≡ 0) e old) (subst (λ (y : ℕ). T (setOf u′ (headAt s y))) e v)
+                (λ w. n (subst⁻¹ (λ (y : ℕ). T (setOf k (headAt s y))) e w))))
+                (λ d. getD-set-other cnt (getD own p 0) x (getD cnt (getD own p 0) 0 + 1) 0 d ∙ old);
+          }
+
+      stands : (getD cnt r 0 ≡ 0 → ⊥) → Sunk s k own cnt₀ u₀ q₀ i₀ t₀ cnt₁ u q i p t
+      stands d =
+          record {
+            carried = carried-on (now .carried) owed;
+            fallen = now .fallen;
+            kept = kept-but u (λ c v. v) (λ z v n. d z);
+          }
+
+      leaves : (u′ q′ : List ℕ) (t′ : ℕ) → getD cnt r 0 ≡ 0 → Left k (headAt s r) u q t u′ q′ t′ → Sunk s k own cnt₀ u₀ q₀ i₀ t₀ cnt₁ u′ q′ i p t′
+      leaves u′ q′ t′ z j =
+          record {
+            carried = carried-on (now .carried) (λ b f. falling-left (owed b f) (headAt s r) head-in inside (falling-free f r below z) j);
+            fallen = fallen-trans (now .fallen) (left-fallen j head-has room);
+            kept = kept-but u′ (left-fewer j head-has) (λ y v n. left-out j head-has v n);
+          }
+
+      pub sunk-step :
+          (cnt′ u′ q′ : List ℕ) (t′ : ℕ) → Owed s k cnt u q (getD own p 0) t cnt′ u′ q′ t′
+          → Sunk s k own cnt₀ u₀ q₀ i₀ t₀ cnt′ u′ q′ i p t′ × (i < t′) × (getD q′ i 0 ≡ getD q i 0)
+      unfolding cnt₁ r
+      sunk-step cnt′ u′ q′ t′ done =
+          subst⁻¹ (λ (x : List ℕ). Sunk s k own cnt₀ u₀ q₀ i₀ t₀ x u′ q′ i p t′ × (i < t′) × (getD q′ i 0 ≡ getD q i 0)) (done .raised)
+          (by-cases (ℕ-discrete (getD cnt (getD own p 0) 0) 0)
+          (λ e. (leaves u′ q′ t′ e (done .leaves e), omega (arith, left-up (done .leaves e)), left-old (done .leaves e) i inside))
+          (λ d. let m = done .stands d in rw (m .0, m .1, m .2) (stands d, inside, refl)))
+
+pub sunk-trans :
+    (s k own cnt₀ u₀ q₀ : List ℕ) (i₀ t₀ : ℕ) (cnt₁ u₁ q₁ : List ℕ) (i₁ t₁ : ℕ) (cnt u q : List ℕ) (i x t : ℕ)
+    → Sunk s k own cnt₀ u₀ q₀ i₀ t₀ cnt₁ u₁ q₁ i₁ (literals s) t₁ → Sunk s k own cnt₁ u₁ q₁ i₁ t₁ cnt u q i x t → Sunk s k own cnt₀ u₀ q₀ i₀ t₀ cnt u q i x t
+sunk-trans s k own cnt₀ u₀ q₀ i₀ t₀ cnt₁ u₁ q₁ i₁ t₁ cnt u q i x t a b =
+    record {
+      carried = record { some = b .carried .some; each = λ m n. b .carried .each m (a .carried .each m n) };
+      fallen = fallen-trans (a .fallen) (b .fallen);
+      kept = kept-trans (sunk-fewer s k own cnt₁ u₁ q₁ i₁ t₁ cnt u q i x t b) (a .kept) (b .kept);
+    }
+
+-- the places of the key at i of the list, walked from the first on: of its positions those from x on have failed
+pub record Failing (s k start occ cnt₀ u₀ q₀ : List ℕ) (i t₀ : ℕ) (cnt u q : List ℕ) (t key j : ℕ) : Type 0 where
+  pub x : ℕ
+  pub sunk : Sunk s k (owners s) cnt₀ u₀ q₀ i t₀ cnt u q i x t
+  pub inside : i < t
+  pub low : x ≤ literals s
+  pub is : getD q i 0 ≡ key
+  pub left : j + tally s key x ≡ startOf s (key + 1)
+
+module _ (s k start occ cnt₀ u₀ q₀ : List ℕ) (i t₀ : ℕ) (good : WellFormed s) (placed : Placed s start occ) where
+  pub failing-start :
+      i < t₀ → ((b : Stand) × Falling s b (setOf k) (owners s) cnt₀ u₀ q₀ i (literals s) t₀) → (key j : ℕ) → key ≡ getD q₀ i 0 → j ≡ startOf s key
+      → Failing s k start occ cnt₀ u₀ q₀ i t₀ cnt₀ u₀ q₀ t₀ key j
+  failing-start l some key j e f =
+      record {
+        x = literals s;
+        sunk = sunk-start s k (owners s) cnt₀ u₀ q₀ i t₀ some;
+        inside = l;
+        low = omega arith;
+        is = sym e;
+        left = omega (arith, f, occ-first s key);
+      }
+
+  module _ (cnt u q : List ℕ) (t key j : ℕ) (now : Failing s k start occ cnt₀ u₀ q₀ i t₀ cnt u q t key j) where
+    pub failing-most : startOf s (key + 1) ≤ literals s
+    failing-most = start-most s (key + 1)
+
+    pub failing-end : startOf s (key + 1) ≤ j → Sunk s k (owners s) cnt₀ u₀ q₀ i t₀ cnt u q (i + 1) (literals s) t
+    failing-end l =
+        sunk-next s k (owners s) cnt₀ u₀ q₀ i t₀ cnt u q i t 0 (omega arith)
+        (sunk-skip s k (owners s) cnt₀ u₀ q₀ i t₀ cnt u q i t (now .x) 0 (omega arith)
+        (λ p a b e. occ-done s key (now .x) j (now .left) l p b (e ∙ now .is)) (now .sunk))
+
+    module _ (more : j < startOf s (key + 1)) where
+      here : Found s occ key (now .x) j
+      here = found s start occ key (now .x) j good placed (now .low) (now .left) more
+
+      p : ℕ
+      p = here .p
+
+      at : Sunk s k (owners s) cnt₀ u₀ q₀ i t₀ cnt u q i (p + 1) t
+      unfolding p
+      at =
+          sunk-skip s k (owners s) cnt₀ u₀ q₀ i t₀ cnt u q i t (now .x) (p + 1) (omega (arith, here .below))
+          (λ k a b e. here .past k a b (e ∙ now .is)) (now .sunk)
+
+      key-here : keyAt s p ≡ getD q i 0
+      unfolding p
+      key-here = here .has ∙ sym (now .is)
+
+      module _ (r : ℕ) (read : r ≡ getD occ j 0) where
+        rule-is : r ≡ getD (owners s) p 0
+        unfolding p
+        rule-is = here .rule r read
+
+        p-in : p < literals s
+        unfolding p
+        p-in = here .inside
+
+        pub failing-rule : r < rules s
+        failing-rule = here .small r read
+
+        pub failing-few : getD cnt r 0 < 65535
+        failing-few =
+            subst⁻¹ (λ (y : ℕ). getD cnt y 0 < 65535) rule-is
+            (sunk-most s k (owners s) cnt₀ u₀ q₀ i t₀ cnt u q i t p good (owners-owned s good) at (now .inside) p-in key-here)
+
+        pub failing-room : stays k u (headAt s r) ≡ false → t < length q
+        failing-room =
+            subst⁻¹ (λ (y : ℕ). stays k u (headAt s y) ≡ false → t < length q) rule-is
+            (sunk-room s k (owners s) cnt₀ u₀ q₀ i t₀ cnt u q i t p good (owners-owned s good) at (now .inside) p-in key-here)
+
+        pub failing-step : (cnt′ u′ q′ : List ℕ) (t′ : ℕ) → Owed s k cnt u q r t cnt′ u′ q′ t′ → Failing s k start occ cnt₀ u₀ q₀ i t₀ cnt′ u′ q′ t′ key (j + 1)
+        unfolding p
+        failing-step cnt′ u′ q′ t′ owed =
+            let m =
+            sunk-step s k (owners s) cnt₀ u₀ q₀ i t₀ cnt u q i t p good (owners-owned s good) at (now .inside) p-in key-here cnt′ u′ q′ t′
+            (subst (λ (y : ℕ). Owed s k cnt u q y t cnt′ u′ q′ t′) rule-is owed)
+            in
+            record { x = p; sunk = m .0; inside = m .1; low = omega (arith, p-in); is = m .2 ∙ now .is; left = here .left }

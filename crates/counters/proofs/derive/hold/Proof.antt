@@ -1,0 +1,181 @@
+-- `counters::derive::hold` meets its contract. The loop's invariant: of the key's places those before `j` are taken. The measure is what is left of them. Assumes nothing.
+use Prim.Native.Nat.{ℕ, _+_, _-_, _<_}
+use mathlib.Core.Path.{_≡_, refl, _∙_, subst}
+use native.Mathlib.Omega.{arith}
+use lib.ListN.{length}
+use Rattle.counters.specs.Positions.{startOf}
+use Rattle.counters.proofs.Queues.{queue-top}
+use Rattle.counters.proofs.Raising.{Taking, taking-start, taking-most, taking-end, taking-rule, taking-some, taking-room, taking-step}
+use Rattle.counters.proofs.derive.hold.Statement.{statement}
+use Rattle.counters.proofs.derive.hold.Tie as tie
+
+abbrev Inv-loop : tie.InvT-loop
+Inv-loop job start occ count₀ w₀ queue₀ i bottom key end j₀ top₀ count w queue j top =
+    (length count ≡ length count₀) × (length w ≡ length w₀) × (length queue ≡ length queue₀)
+    × (end ≡ startOf job (key + 1))
+    × Taking job start occ count₀ w₀ queue₀ i bottom count w queue top key j
+
+abbrev μ-loop : tie.MeasureT-loop
+μ-loop job start occ count₀ w₀ queue₀ i bottom key end j₀ top₀ count w queue j top =
+    end - j
+
+mul-wide : tie.Need-mul-wide Inv-loop μ-loop
+mul-wide c =
+    let start = c .before .before .before .before .before .before .pre in
+    omega (arith, queue-top (start .1 .1 .0 .1 .fits .queue), start .1 .0 .1, start .0 .sized .claimsMost)
+
+slice-read-wide : tie.Need-slice-read-wide Inv-loop μ-loop
+slice-read-wide c =
+    let start = c .before .before .before .before .before .before .before .pre in
+    omega (arith, queue-top (start .1 .1 .0 .1 .fits .queue), start .1 .0 .1, start .1 .1 .0 .1 .fits .queue .long)
+
+wide-requires : tie.Need-wide-requires Inv-loop μ-loop
+wide-requires c κs =
+    tt
+
+add-wide : tie.Need-add-wide Inv-loop μ-loop
+add-wide c =
+    let start = c .before .before .before .before .before .before .before .before .pre in
+    omega (arith, c .wide .ensures .0, start .1 .1 .0 .1 .fits .queue .small _ (start .1 .0 .1), start .0 .sized .claimsMost, start .1 .0 .0 .startLong)
+
+mul-wide-2 : tie.Need-mul-wide-2 Inv-loop μ-loop
+mul-wide-2 c =
+    let start = c .before .before .before .before .before .before .before .before .pre in
+    omega (arith, c .wide .ensures .0, start .1 .1 .0 .1 .fits .queue .small _ (start .1 .0 .1), start .0 .sized .claimsMost, start .1 .0 .0 .startLong)
+
+shared-slice-read-wide : tie.Need-shared-slice-read-wide Inv-loop μ-loop
+shared-slice-read-wide c =
+    let start = c .before .before .before .before .before .before .before .before .before .pre in
+    omega (arith, c .before .wide .ensures .0, start .1 .1 .0 .1 .fits .queue .small _ (start .1 .0 .1), start .0 .sized .claimsMost, start .1 .0 .0 .startLong)
+
+wide-requires-2 : tie.Need-wide-requires-2 Inv-loop μ-loop
+wide-requires-2 c κs =
+    tt
+
+mul-wide-3 : tie.Need-mul-wide-3 Inv-loop μ-loop
+mul-wide-3 c =
+    let start = c .before .before .before .before .before .before .before .before .before .before .pre in
+    omega (arith, c .before .before .wide .ensures .0, start .1 .1 .0 .1 .fits .queue .small _ (start .1 .0 .1), start .0 .sized .claimsMost, start .1 .0 .0 .startLong)
+
+shared-slice-read-wide-2 : tie.Need-shared-slice-read-wide-2 Inv-loop μ-loop
+shared-slice-read-wide-2 c =
+    let start = c .before .before .before .before .before .before .before .before .before .before .before .pre in
+    omega (arith, c .before .before .before .wide .ensures .0, start .1 .1 .0 .1 .fits .queue .small _ (start .1 .0 .1), start .0 .sized .claimsMost, start .1 .0 .0 .startLong)
+
+wide-requires-3 : tie.Need-wide-requires-3 Inv-loop μ-loop
+wide-requires-3 c κs =
+    tt
+
+loop-holds : tie.Need-loop-holds Inv-loop μ-loop
+loop-holds c =
+    let start = c .before .before .before .before .before .before .before .before .before .before .before .before .pre in
+    let last = c .before .before .before .before .before .before .before .before .before .before .before .before .args .start .now in
+    let k = c .before .before .before .before .wide .ensures .0 in
+    let small = start .1 .1 .0 .1 .fits .queue .small _ (start .1 .0 .1) in (
+      refl,
+      refl,
+      refl,
+      c .before .before .wide2 .ensures .0 ∙ start .1 .0 .0 .starts _ (omega (arith, k, small)),
+      taking-start _ _ _ _ _ _ _ _ (start .0) (start .1 .0 .0) (start .1 .0 .1) (start .1 .1 .0) (start .1 .1 .1) _ _ k
+          (c .wide3 .ensures .0 ∙ start .1 .0 .0 .starts _ (omega (arith, k, small))),
+    )
+
+mul-wide-4 : tie.Need-mul-wide-4 Inv-loop μ-loop
+mul-wide-4 c =
+    omega (arith, c .before .before .before .before .wide2 .ensures .1)
+
+shared-slice-read-wide-3 : tie.Need-shared-slice-read-wide-3 Inv-loop μ-loop
+shared-slice-read-wide-3 c =
+    let start = c .before .before .before .before .before .before .before .before .before .before .before .before .before .before .before .pre in
+    let l = c .before .before .loop in
+    omega (arith, l .inv .3, c .before .loop-test .taken, taking-most _ _ _ _ _ _ _ _ (start .0) (start .1 .0 .0) _ _ _ _ _ _ (l .inv .4), start .1 .0 .0 .occLong)
+
+wide-requires-4 : tie.Need-wide-requires-4 Inv-loop μ-loop
+wide-requires-4 c κs =
+    tt
+
+pay-requires : tie.Need-pay-requires Inv-loop μ-loop
+pay-requires c κs =
+    let c₁ = c .before .before .before in
+    let l = c₁ .before .before .before .loop in
+    let start = c₁ .before .before .before .before .before .before .before .before .before .before .before .before .before .before .before .before .pre in
+    let r = c₁ .wide4 .ensures .0 in
+    let more = subst (λ (y : ℕ). l .j < y) (l .inv .3) (c₁ .before .before .loop-test .taken) in
+    let now = l .inv .4 in
+    let some = now .raised .carried .some .1 in (
+      start .0,
+      (
+        (taking-rule _ _ _ _ _ _ _ _ (start .0) (start .1 .0 .0) _ _ _ _ _ _ now more _ r, some .fits .size, some .counts .long, taking-some _ _ _ _ _ _ _ _ (start .0) (start .1 .0 .0) _ _ _ _ _ _ now more _ r),
+        taking-room _ _ _ _ _ _ _ _ (start .0) (start .1 .0 .0) _ _ _ _ _ _ now more _ r,
+      ),
+    )
+
+add-j : tie.Need-add-j Inv-loop μ-loop
+add-j c =
+    omega (arith, c .before .before .before .before .before .before .before .before .before .before .before .before .before .before .before .before .wide2 .ensures .1)
+
+loop-less : tie.Need-loop-less Inv-loop μ-loop
+loop-less c =
+    omega arith
+
+loop-again : tie.Need-loop-again Inv-loop μ-loop
+loop-again c =
+    let c₁ = c .before .before .before .before .before .before in
+    let c₂ = c₁ .before .before .before .before in
+    let l = c₂ .before .before .before .loop in
+    let start = c₂ .before .before .before .before .before .before .before .before .before .before .before .before .before .before .before .before .pre in
+    let pay = c₁ .pay in
+    let more = subst (λ (y : ℕ). l .j < y) (l .inv .3) (c₂ .before .before .loop-test .taken) in (
+      pay .kept .1 .0 ∙ l .inv .0,
+      pay .kept .1 .1 .0 ∙ l .inv .1,
+      pay .kept .1 .1 .1 .0 ∙ l .inv .2,
+      l .inv .3,
+      taking-step _ _ _ _ _ _ _ _ (start .0) (start .1 .0 .0) _ _ _ _ _ _ (l .inv .4) more _ (c₂ .wide4 .ensures .0) _ _ _ _ (pay .ensures),
+    )
+
+same-length : tie.Need-same-length Inv-loop μ-loop
+same-length c =
+    c .before .loop .inv .0
+
+same-length-2 : tie.Need-same-length-2 Inv-loop μ-loop
+same-length-2 c =
+    c .before .loop .inv .1
+
+same-length-3 : tie.Need-same-length-3 Inv-loop μ-loop
+same-length-3 c =
+    c .before .loop .inv .2
+
+returns : tie.Need-returns Inv-loop μ-loop
+returns c =
+    let l = c .before .loop in
+    let start = c .before .before .before .before .before .before .before .before .before .before .before .before .before .before .pre in
+    (l .inv .4 .inside, taking-end _ _ _ _ _ _ _ _ (start .0) (start .1 .0 .0) _ _ _ _ _ _ (l .inv .4) (omega (arith, l .inv .3, c .loop-test .left)))
+
+pub hold-spec : {M : Type 1} → statement M
+hold-spec =
+    tie.close
+    (tie.spec
+    Inv-loop
+    μ-loop
+    mul-wide
+    slice-read-wide
+    wide-requires
+    add-wide
+    mul-wide-2
+    shared-slice-read-wide
+    wide-requires-2
+    mul-wide-3
+    shared-slice-read-wide-2
+    wide-requires-3
+    loop-holds
+    mul-wide-4
+    shared-slice-read-wide-3
+    wide-requires-4
+    pay-requires
+    add-j
+    loop-less
+    loop-again
+    same-length
+    same-length-2
+    same-length-3
+    returns)

@@ -1,0 +1,5 @@
+pub mod Positions
+pub mod Placing
+pub mod Queues
+pub mod Counters
+pub mod Doubts

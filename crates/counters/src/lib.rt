@@ -1,0 +1,15 @@
+// The sets D(S) by counters, a number a rule (crate semantics: specs/Model): where literals occur, how a D grows and how U shrinks.
+// The contracts cite specs/: Positions and Placing (occurrences), Queues and Counters (growing), Doubts (shrinking).
+pub mod derive;
+pub mod doubt;
+pub mod occurrences;
+pub mod recover;
+
+// The bytes of verdicts (semantics/specs/Model: byteOf), and that of a claim whose verdict is not known.
+pub const UNKNOWN: u8 = 0;
+
+pub const TRUE: u8 = 1;
+
+pub const FALSE: u8 = 2;
+
+pub const UNDEFINED: u8 = 3;
