@@ -1,4 +1,4 @@
--- A D by counters at its start and at its end (specs/Counters: Growing). Assumes nothing.
+-- A D by counters at its start and at its end (counters/specs/Counters: Growing). Assumes nothing.
 --   growing-counts   all keys are taken: what the counters count
 --   growing-from     the queue is empty
 --   idle-in          a claim whose rule counts nothing may join

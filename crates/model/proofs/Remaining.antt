@@ -1,4 +1,4 @@
--- U by over-deletion (specs/Counters): what is left of U is derived against the new K. Assumes nothing.
+-- U by over-deletion (counters/specs/Counters): what is left of U is derived against the new K. Assumes nothing.
 --   stage-in   what is derived in some steps is in D(S)
 --   again      a claim that a step against K₀ gave, and that is left, comes by a step against K
 --   sunk       what is left is in D(K)

@@ -1,4 +1,4 @@
--- What the two D's of the counters are (specs/Counters): the rules that count nothing for ever, and a step of the exchanged program.
+-- What the two D's of the counters are (counters/specs/Counters): the rules that count nothing for ever, and a step of the exchanged program.
 -- Assumes nothing.
 --   closed-need, closed-fail   D(S) has the head of each such rule whose literals hold
 --   covers-need, covers-fail   a set that has those heads, and what the known verdicts give, has all that a step gives
