@@ -2,7 +2,8 @@
 --   carried-on                    every aim goes on
 --   raised-start, -trans          nothing done, and one after the other
 --   raised-skip, -step, -next     a key's positions: past those of others, one done, and on to the next key
---   raised-some, -room            what a step asks for
+--   raised-some, -room            what a step asks for; raised-all   all keys are taken
+--   Taking, Takes, taking-..      the places of one key, as `hold` walks them
 use Prim.Native.Nat.{ℕ, _+_, _-_, _<_, _≤_}
 use mathlib.Core.Path.{_≡_, refl, sym, _∙_, ap, subst, subst⁻¹}
 use mathlib.Core.Bool.{false}
@@ -16,12 +17,11 @@ use lib.Seq.{getD-set-same, getD-set-other}
 use Rattle.base.specs.Sets.{_⊆_, setOf}
 use Rattle.job.specs.Accepted.{WellFormed}
 use Rattle.job.specs.Format.{claims, rules, literals, headAt}
-use Rattle.counters.specs.Positions.{keyAt, tally, startOf, owners, Placed}
+use Rattle.counters.specs.Positions.{keyAt, startOf, owners, Placed}
 use Rattle.counters.specs.Queues.{Joined, Fits}
 use Rattle.counters.specs.Counters.{Aim, Ready, Growing, Paid, Carried, Raised}
-use Rattle.counters.proofs.Occurring.{occ-first, occ-done, start-most}
 use Rattle.counters.proofs.Owning.{Owned, owners-owned}
-use Rattle.counters.proofs.Walking.{Found, found}
+use Rattle.counters.proofs.Walking.{Walk, walk-start, walk-end, walk-next, walk-on}
 use Rattle.counters.proofs.Queues.{pending-skip, pending-next}
 use Rattle.counters.proofs.Joining.{fits-room, joined-grown, joined-there, joined-old, joined-up, grown-refl, grown-trans}
 use Rattle.counters.proofs.Growing.{growing-fires, growing-joined, growing-some, growing-pay, growing-due}
@@ -155,83 +155,46 @@ raised-all {s} {own} {cnt₀} {w₀} {q₀} {i₀} {t₀} {cnt} {w} {q} {i} {x} 
     let e : i ≡ t = omega arith in
     subst (λ (y : ℕ). Raised s own cnt₀ w₀ q₀ i₀ t₀ cnt w q y x t) e now
 
--- the places of the key at i of the queue, walked from the first on: of its positions those from x on are done
-pub record Taking (s start occ cnt₀ w₀ q₀ : List ℕ) (i t₀ : ℕ) (cnt w q : List ℕ) (t key j : ℕ) : Type 0 where
-  pub x : ℕ
-  pub raised : Raised s (owners s) cnt₀ w₀ q₀ i t₀ cnt w q i x t
-  pub inside : i < t
-  pub low : x ≤ literals s
-  pub is : getD q i 0 ≡ key
-  pub left : j + tally s key x ≡ startOf s (key + 1)
+-- the places of the key at i of the queue, walked
+abbrev pub Taking : (s cnt₀ w₀ q₀ : List ℕ) (i t₀ : ℕ) (cnt w q : List ℕ) (t key j : ℕ) → Type 0
+Taking s cnt₀ w₀ q₀ i t₀ cnt w q t key j = Walk (λ x. Raised s (owners s) cnt₀ w₀ q₀ i t₀ cnt w q i x t) s q i t key j
+
+-- rule r has the position at place j: what its step asks for, and the step
+pub record Takes (s cnt₀ w₀ q₀ : List ℕ) (i t₀ : ℕ) (cnt w q : List ℕ) (t key j r : ℕ) : Type 0 where
+  pub below : r < rules s
+  pub some : 1 ≤ getD cnt r 0
+  pub room : setOf w (headAt s r) ≡ false → t < length q
+  pub step :
+      (cnt′ w′ q′ : List ℕ) (t′ : ℕ) → Paid s cnt w q r t cnt′ w′ q′ t′ → Taking s cnt₀ w₀ q₀ i t₀ cnt′ w′ q′ t′ key (j + 1)
 
 module _ (s start occ cnt₀ w₀ q₀ : List ℕ) (i t₀ : ℕ) (good : WellFormed s) (placed : Placed s start occ) where
   pub taking-start :
       i < t₀ → ((a : Aim) × Growing s a (owners s) cnt₀ w₀ q₀ i (literals s) t₀) → Ready s cnt₀ w₀ (rules s) → (key j : ℕ) → key ≡ getD q₀ i 0
-      → j ≡ startOf s key → Taking s start occ cnt₀ w₀ q₀ i t₀ cnt₀ w₀ q₀ t₀ key j
-  taking-start l some ready key j e f =
-      record {
-        x = literals s;
-        raised = raised-start s (owners s) cnt₀ w₀ q₀ i t₀ some ready;
-        inside = l;
-        low = omega arith;
-        is = sym e;
-        left = omega (arith, f, occ-first s key);
-      }
+      → j ≡ startOf s key → Taking s cnt₀ w₀ q₀ i t₀ cnt₀ w₀ q₀ t₀ key j
+  taking-start l some ready key j e f = walk-start (raised-start s (owners s) cnt₀ w₀ q₀ i t₀ some ready) l e f
 
-  module _ (cnt w q : List ℕ) (t key j : ℕ) (now : Taking s start occ cnt₀ w₀ q₀ i t₀ cnt w q t key j) where
-    pub taking-most : startOf s (key + 1) ≤ literals s
-    taking-most = start-most s (key + 1)
-
+  module _ (cnt w q : List ℕ) (t key j : ℕ) (now : Taking s cnt₀ w₀ q₀ i t₀ cnt w q t key j) where
     pub taking-end : startOf s (key + 1) ≤ j → Raised s (owners s) cnt₀ w₀ q₀ i t₀ cnt w q (i + 1) (literals s) t
     taking-end l =
         raised-next s (owners s) cnt₀ w₀ q₀ i t₀ cnt w q i t 0 (omega arith)
-        (raised-skip s (owners s) cnt₀ w₀ q₀ i t₀ cnt w q i t (now .x) 0 (omega arith)
-        (λ p a b e. occ-done s key (now .x) j (now .left) l p b (e ∙ now .is)) (now .raised))
+        (walk-end now (raised-skip s (owners s) cnt₀ w₀ q₀ i t₀ cnt w q i t) l)
 
-    module _ (more : j < startOf s (key + 1)) where
-      here : Found s occ key (now .x) j
-      here = found s start occ key (now .x) j good placed (now .low) (now .left) more
-
-      p : ℕ
-      p = here .p
-
-      at : Raised s (owners s) cnt₀ w₀ q₀ i t₀ cnt w q i (p + 1) t
-      unfolding p
-      at =
-          raised-skip s (owners s) cnt₀ w₀ q₀ i t₀ cnt w q i t (now .x) (p + 1) (omega (arith, here .below))
-          (λ k a b e. here .past k a b (e ∙ now .is)) (now .raised)
-
-      key-here : keyAt s p ≡ getD q i 0
-      unfolding p
-      key-here = here .has ∙ sym (now .is)
-
-      module _ (r : ℕ) (read : r ≡ getD occ j 0) where
-        rule-is : r ≡ getD (owners s) p 0
-        unfolding p
-        rule-is = here .rule r read
-
-        p-in : p < literals s
-        unfolding p
-        p-in = here .inside
-
-        pub taking-rule : r < rules s
-        taking-rule = here .small r read
-
-        pub taking-some : 1 ≤ getD cnt r 0
-        taking-some =
-            subst⁻¹ (λ (y : ℕ). 1 ≤ getD cnt y 0) rule-is
-            (raised-some s (owners s) cnt₀ w₀ q₀ i t₀ cnt w q i t p good (owners-owned s good) at (now .inside) p-in key-here)
-
-        pub taking-room : setOf w (headAt s r) ≡ false → t < length q
-        taking-room =
-            subst⁻¹ (λ (y : ℕ). setOf w (headAt s y) ≡ false → t < length q) rule-is
-            (raised-room s (owners s) cnt₀ w₀ q₀ i t₀ cnt w q i t p good (owners-owned s good) at (now .inside) p-in key-here)
-
-        pub taking-step : (cnt′ w′ q′ : List ℕ) (t′ : ℕ) → Paid s cnt w q r t cnt′ w′ q′ t′ → Taking s start occ cnt₀ w₀ q₀ i t₀ cnt′ w′ q′ t′ key (j + 1)
-        unfolding p
-        taking-step cnt′ w′ q′ t′ paid =
-            let m =
-            raised-step s (owners s) cnt₀ w₀ q₀ i t₀ cnt w q i t p good (owners-owned s good) at (now .inside) p-in key-here cnt′ w′ q′ t′
-            (subst (λ (y : ℕ). Paid s cnt w q y t cnt′ w′ q′ t′) rule-is paid)
-            in
-            record { x = p; raised = m .0; inside = m .1; low = omega (arith, p-in); is = m .2 ∙ now .is; left = here .left }
+    pub taking-next : j < startOf s (key + 1) → (r : ℕ) → r ≡ getD occ j 0 → Takes s cnt₀ w₀ q₀ i t₀ cnt w q t key j r
+    taking-next more r read =
+        let n = walk-next now good placed (raised-skip s (owners s) cnt₀ w₀ q₀ i t₀ cnt w q i t) more r read in
+        let own = owners-owned s good in
+        record {
+          below = n .small;
+          some =
+              subst⁻¹ (λ (y : ℕ). 1 ≤ getD cnt y 0) (n .rule)
+              (raised-some s (owners s) cnt₀ w₀ q₀ i t₀ cnt w q i t (n .p) good own (n .state) (now .inside) (n .inside) (n .here));
+          room =
+              subst⁻¹ (λ (y : ℕ). setOf w (headAt s y) ≡ false → t < length q) (n .rule)
+              (raised-room s (owners s) cnt₀ w₀ q₀ i t₀ cnt w q i t (n .p) good own (n .state) (now .inside) (n .inside) (n .here));
+          step = λ cnt′ w′ q′ t′ paid.
+              let m =
+              raised-step s (owners s) cnt₀ w₀ q₀ i t₀ cnt w q i t (n .p) good own (n .state) (now .inside) (n .inside) (n .here) cnt′ w′ q′ t′
+              (subst (λ (y : ℕ). Paid s cnt w q y t cnt′ w′ q′ t′) (n .rule) paid)
+              in
+              walk-on now n (m .0) (m .1) (m .2);
+        }

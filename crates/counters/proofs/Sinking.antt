@@ -3,7 +3,7 @@
 --   sunk-skip, -step, -next     a key's positions: past those of others, one that fails, and on to the next key
 --   sunk-most, -room, -top      what a step asks for; sunk-end   all keys are done
 --   sunk-fewer                  the set has no more claims than before
---   Failing, failing-..         the places of one key, as `fall` walks them
+--   Failing, Fails, failing-..  the places of one key, as `fall` walks them
 use Prim.Native.Nat.{ℕ, _+_, _-_, _<_, _≤_}
 use mathlib.Core.Path.{_≡_, refl, sym, _∙_, subst, subst⁻¹}
 use mathlib.Core.Bool.{false}
@@ -17,12 +17,11 @@ use lib.Seq.{getD-set-other}
 use Rattle.base.specs.Sets.{Claims, _⊆_, setOf}
 use Rattle.job.specs.Accepted.{WellFormed}
 use Rattle.job.specs.Format.{claims, rules, literals, headAt}
-use Rattle.counters.specs.Positions.{keyAt, keys, tally, startOf, owners, Placed}
+use Rattle.counters.specs.Positions.{keyAt, keys, startOf, owners, Placed}
 use Rattle.counters.specs.Doubts.{Stand, stays, Left, Owed, Falling, Kept, Sunk}
 use Rattle.counters.proofs.Queues.{queue-top, pending-skip, pending-next}
-use Rattle.counters.proofs.Occurring.{occ-first, occ-done, start-most}
 use Rattle.counters.proofs.Owning.{Owned, owners-owned}
-use Rattle.counters.proofs.Walking.{Found, found}
+use Rattle.counters.proofs.Walking.{Walk, walk-start, walk-end, walk-next, walk-on}
 use Rattle.counters.proofs.Raising.{carried-on}
 use Rattle.counters.proofs.Leaving.{stays-no, left-old, left-up, left-fewer, left-out, left-fallen, fallen-refl, fallen-trans, fallen-fewer}
 use Rattle.counters.proofs.Falling.{falling-room, falling-most, falling-left, falling-owe, falling-due, falling-free}
@@ -151,83 +150,46 @@ sunk-trans s k own cnt₀ u₀ q₀ i₀ t₀ cnt₁ u₁ q₁ i₁ t₁ cnt u q
       kept = kept-trans (sunk-fewer s k own cnt₁ u₁ q₁ i₁ t₁ cnt u q i x t b) (a .kept) (b .kept);
     }
 
--- the places of the key at i of the list, walked from the first on: of its positions those from x on have failed
-pub record Failing (s k start occ cnt₀ u₀ q₀ : List ℕ) (i t₀ : ℕ) (cnt u q : List ℕ) (t key j : ℕ) : Type 0 where
-  pub x : ℕ
-  pub sunk : Sunk s k (owners s) cnt₀ u₀ q₀ i t₀ cnt u q i x t
-  pub inside : i < t
-  pub low : x ≤ literals s
-  pub is : getD q i 0 ≡ key
-  pub left : j + tally s key x ≡ startOf s (key + 1)
+-- the places of the key at i of the list, walked
+abbrev pub Failing : (s k cnt₀ u₀ q₀ : List ℕ) (i t₀ : ℕ) (cnt u q : List ℕ) (t key j : ℕ) → Type 0
+Failing s k cnt₀ u₀ q₀ i t₀ cnt u q t key j = Walk (λ x. Sunk s k (owners s) cnt₀ u₀ q₀ i t₀ cnt u q i x t) s q i t key j
+
+-- rule r has the position at place j: what its step asks for, and the step
+pub record Fails (s k cnt₀ u₀ q₀ : List ℕ) (i t₀ : ℕ) (cnt u q : List ℕ) (t key j r : ℕ) : Type 0 where
+  pub below : r < rules s
+  pub few : getD cnt r 0 < 65535
+  pub room : stays k u (headAt s r) ≡ false → t < length q
+  pub step :
+      (cnt′ u′ q′ : List ℕ) (t′ : ℕ) → Owed s k cnt u q r t cnt′ u′ q′ t′ → Failing s k cnt₀ u₀ q₀ i t₀ cnt′ u′ q′ t′ key (j + 1)
 
 module _ (s k start occ cnt₀ u₀ q₀ : List ℕ) (i t₀ : ℕ) (good : WellFormed s) (placed : Placed s start occ) where
   pub failing-start :
       i < t₀ → ((b : Stand) × Falling s b (setOf k) (owners s) cnt₀ u₀ q₀ i (literals s) t₀) → (key j : ℕ) → key ≡ getD q₀ i 0 → j ≡ startOf s key
-      → Failing s k start occ cnt₀ u₀ q₀ i t₀ cnt₀ u₀ q₀ t₀ key j
-  failing-start l some key j e f =
-      record {
-        x = literals s;
-        sunk = sunk-start s k (owners s) cnt₀ u₀ q₀ i t₀ some;
-        inside = l;
-        low = omega arith;
-        is = sym e;
-        left = omega (arith, f, occ-first s key);
-      }
+      → Failing s k cnt₀ u₀ q₀ i t₀ cnt₀ u₀ q₀ t₀ key j
+  failing-start l some key j e f = walk-start (sunk-start s k (owners s) cnt₀ u₀ q₀ i t₀ some) l e f
 
-  module _ (cnt u q : List ℕ) (t key j : ℕ) (now : Failing s k start occ cnt₀ u₀ q₀ i t₀ cnt u q t key j) where
-    pub failing-most : startOf s (key + 1) ≤ literals s
-    failing-most = start-most s (key + 1)
-
+  module _ (cnt u q : List ℕ) (t key j : ℕ) (now : Failing s k cnt₀ u₀ q₀ i t₀ cnt u q t key j) where
     pub failing-end : startOf s (key + 1) ≤ j → Sunk s k (owners s) cnt₀ u₀ q₀ i t₀ cnt u q (i + 1) (literals s) t
     failing-end l =
         sunk-next s k (owners s) cnt₀ u₀ q₀ i t₀ cnt u q i t 0 (omega arith)
-        (sunk-skip s k (owners s) cnt₀ u₀ q₀ i t₀ cnt u q i t (now .x) 0 (omega arith)
-        (λ p a b e. occ-done s key (now .x) j (now .left) l p b (e ∙ now .is)) (now .sunk))
+        (walk-end now (sunk-skip s k (owners s) cnt₀ u₀ q₀ i t₀ cnt u q i t) l)
 
-    module _ (more : j < startOf s (key + 1)) where
-      here : Found s occ key (now .x) j
-      here = found s start occ key (now .x) j good placed (now .low) (now .left) more
-
-      p : ℕ
-      p = here .p
-
-      at : Sunk s k (owners s) cnt₀ u₀ q₀ i t₀ cnt u q i (p + 1) t
-      unfolding p
-      at =
-          sunk-skip s k (owners s) cnt₀ u₀ q₀ i t₀ cnt u q i t (now .x) (p + 1) (omega (arith, here .below))
-          (λ k a b e. here .past k a b (e ∙ now .is)) (now .sunk)
-
-      key-here : keyAt s p ≡ getD q i 0
-      unfolding p
-      key-here = here .has ∙ sym (now .is)
-
-      module _ (r : ℕ) (read : r ≡ getD occ j 0) where
-        rule-is : r ≡ getD (owners s) p 0
-        unfolding p
-        rule-is = here .rule r read
-
-        p-in : p < literals s
-        unfolding p
-        p-in = here .inside
-
-        pub failing-rule : r < rules s
-        failing-rule = here .small r read
-
-        pub failing-few : getD cnt r 0 < 65535
-        failing-few =
-            subst⁻¹ (λ (y : ℕ). getD cnt y 0 < 65535) rule-is
-            (sunk-most s k (owners s) cnt₀ u₀ q₀ i t₀ cnt u q i t p good (owners-owned s good) at (now .inside) p-in key-here)
-
-        pub failing-room : stays k u (headAt s r) ≡ false → t < length q
-        failing-room =
-            subst⁻¹ (λ (y : ℕ). stays k u (headAt s y) ≡ false → t < length q) rule-is
-            (sunk-room s k (owners s) cnt₀ u₀ q₀ i t₀ cnt u q i t p good (owners-owned s good) at (now .inside) p-in key-here)
-
-        pub failing-step : (cnt′ u′ q′ : List ℕ) (t′ : ℕ) → Owed s k cnt u q r t cnt′ u′ q′ t′ → Failing s k start occ cnt₀ u₀ q₀ i t₀ cnt′ u′ q′ t′ key (j + 1)
-        unfolding p
-        failing-step cnt′ u′ q′ t′ owed =
-            let m =
-            sunk-step s k (owners s) cnt₀ u₀ q₀ i t₀ cnt u q i t p good (owners-owned s good) at (now .inside) p-in key-here cnt′ u′ q′ t′
-            (subst (λ (y : ℕ). Owed s k cnt u q y t cnt′ u′ q′ t′) rule-is owed)
-            in
-            record { x = p; sunk = m .0; inside = m .1; low = omega (arith, p-in); is = m .2 ∙ now .is; left = here .left }
+    pub failing-next : j < startOf s (key + 1) → (r : ℕ) → r ≡ getD occ j 0 → Fails s k cnt₀ u₀ q₀ i t₀ cnt u q t key j r
+    failing-next more r read =
+        let n = walk-next now good placed (sunk-skip s k (owners s) cnt₀ u₀ q₀ i t₀ cnt u q i t) more r read in
+        let own = owners-owned s good in
+        record {
+          below = n .small;
+          few =
+              subst⁻¹ (λ (y : ℕ). getD cnt y 0 < 65535) (n .rule)
+              (sunk-most s k (owners s) cnt₀ u₀ q₀ i t₀ cnt u q i t (n .p) good own (n .state) (now .inside) (n .inside) (n .here));
+          room =
+              subst⁻¹ (λ (y : ℕ). stays k u (headAt s y) ≡ false → t < length q) (n .rule)
+              (sunk-room s k (owners s) cnt₀ u₀ q₀ i t₀ cnt u q i t (n .p) good own (n .state) (now .inside) (n .inside) (n .here));
+          step = λ cnt′ u′ q′ t′ owed.
+              let m =
+              sunk-step s k (owners s) cnt₀ u₀ q₀ i t₀ cnt u q i t (n .p) good own (n .state) (now .inside) (n .inside) (n .here) cnt′ u′ q′ t′
+              (subst (λ (y : ℕ). Owed s k cnt u q y t cnt′ u′ q′ t′) (n .rule) owed)
+              in
+              walk-on now n (m .0) (m .1) (m .2);
+        }

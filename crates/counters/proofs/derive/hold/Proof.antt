@@ -5,7 +5,8 @@ use native.Mathlib.Omega.{arith}
 use lib.ListN.{length}
 use Rattle.counters.specs.Positions.{startOf}
 use Rattle.counters.proofs.Queues.{queue-top}
-use Rattle.counters.proofs.Raising.{Taking, taking-start, taking-most, taking-end, taking-rule, taking-some, taking-room, taking-step}
+use Rattle.counters.proofs.Walking.{walk-most}
+use Rattle.counters.proofs.Raising.{Taking, taking-start, taking-end, taking-next}
 use Rattle.counters.proofs.derive.hold.Statement.{statement}
 use Rattle.counters.proofs.derive.hold.Tie as tie
 
@@ -13,7 +14,7 @@ abbrev Inv-loop : tie.InvT-loop
 Inv-loop job start occ count₀ w₀ queue₀ i bottom key end j₀ top₀ count w queue j top =
     (length count ≡ length count₀) × (length w ≡ length w₀) × (length queue ≡ length queue₀)
     × (end ≡ startOf job (key + 1))
-    × Taking job start occ count₀ w₀ queue₀ i bottom count w queue top key j
+    × Taking job count₀ w₀ queue₀ i bottom count w queue top key j
 
 abbrev μ-loop : tie.MeasureT-loop
 μ-loop job start occ count₀ w₀ queue₀ i bottom key end j₀ top₀ count w queue j top =
@@ -88,7 +89,7 @@ shared-slice-read-wide-3 : tie.Need-shared-slice-read-wide-3 Inv-loop μ-loop
 shared-slice-read-wide-3 c =
     let start = c .before .before .before .before .before .before .before .before .before .before .before .before .before .before .before .pre in
     let l = c .before .before .loop in
-    omega (arith, l .inv .3, c .before .loop-test .taken, taking-most _ _ _ _ _ _ _ _ (start .0) (start .1 .0 .0) _ _ _ _ _ _ (l .inv .4), start .1 .0 .0 .occLong)
+    omega (arith, l .inv .3, c .before .loop-test .taken, walk-most (l .inv .4), start .1 .0 .0 .occLong)
 
 wide-requires-4 : tie.Need-wide-requires-4 Inv-loop μ-loop
 wide-requires-4 c κs =
@@ -102,13 +103,9 @@ pay-requires c κs =
     let r = c₁ .wide4 .ensures .0 in
     let more = subst (λ (y : ℕ). l .j < y) (l .inv .3) (c₁ .before .before .loop-test .taken) in
     let now = l .inv .4 in
-    let some = now .raised .carried .some .1 in (
-      start .0,
-      (
-        (taking-rule _ _ _ _ _ _ _ _ (start .0) (start .1 .0 .0) _ _ _ _ _ _ now more _ r, some .fits .size, some .counts .long, taking-some _ _ _ _ _ _ _ _ (start .0) (start .1 .0 .0) _ _ _ _ _ _ now more _ r),
-        taking-room _ _ _ _ _ _ _ _ (start .0) (start .1 .0 .0) _ _ _ _ _ _ now more _ r,
-      ),
-    )
+    let some = now .state .carried .some .1 in
+    let at = taking-next _ _ _ _ _ _ _ _ (start .0) (start .1 .0 .0) _ _ _ _ _ _ now more _ r in
+    (start .0, ((at .below, some .fits .size, some .counts .long, at .some), at .room))
 
 add-j : tie.Need-add-j Inv-loop μ-loop
 add-j c =
@@ -130,7 +127,7 @@ loop-again c =
       pay .kept .1 .1 .0 ∙ l .inv .1,
       pay .kept .1 .1 .1 .0 ∙ l .inv .2,
       l .inv .3,
-      taking-step _ _ _ _ _ _ _ _ (start .0) (start .1 .0 .0) _ _ _ _ _ _ (l .inv .4) more _ (c₂ .wide4 .ensures .0) _ _ _ _ (pay .ensures),
+      taking-next _ _ _ _ _ _ _ _ (start .0) (start .1 .0 .0) _ _ _ _ _ _ (l .inv .4) more _ (c₂ .wide4 .ensures .0) .step _ _ _ _ (pay .ensures),
     )
 
 same-length : tie.Need-same-length Inv-loop μ-loop

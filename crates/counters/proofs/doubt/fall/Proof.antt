@@ -5,7 +5,8 @@ use native.Mathlib.Omega.{arith}
 use lib.ListN.{length}
 use Rattle.counters.specs.Positions.{startOf}
 use Rattle.counters.proofs.Queues.{queue-top}
-use Rattle.counters.proofs.Sinking.{Failing, failing-start, failing-most, failing-end, failing-rule, failing-few, failing-room, failing-step}
+use Rattle.counters.proofs.Walking.{walk-most}
+use Rattle.counters.proofs.Sinking.{Failing, failing-start, failing-end, failing-next}
 use Rattle.counters.proofs.doubt.fall.Statement.{statement}
 use Rattle.counters.proofs.doubt.fall.Tie as tie
 
@@ -13,7 +14,7 @@ abbrev Inv-loop : tie.InvT-loop
 Inv-loop job start occ k fail₀ u₀ list₀ i bottom key end j₀ top₀ fail u list j top =
     (length fail ≡ length fail₀) × (length u ≡ length u₀) × (length list ≡ length list₀)
     × (end ≡ startOf job (key + 1))
-    × Failing job k start occ fail₀ u₀ list₀ i bottom fail u list top key j
+    × Failing job k fail₀ u₀ list₀ i bottom fail u list top key j
 
 abbrev μ-loop : tie.MeasureT-loop
 μ-loop job start occ k fail₀ u₀ list₀ i bottom key end j₀ top₀ fail u list j top =
@@ -87,7 +88,7 @@ shared-slice-read-wide-3 : tie.Need-shared-slice-read-wide-3 Inv-loop μ-loop
 shared-slice-read-wide-3 c =
     let start = c .before .before .before .before .before .before .before .before .before .before .before .before .before .before .before .before .pre in
     let l = c .before .before .loop in
-    omega (arith, l .inv .3, c .before .loop-test .taken, failing-most _ _ _ _ _ _ _ _ _ (start .0) (start .1 .0 .0) _ _ _ _ _ _ (l .inv .4), start .1 .0 .0 .occLong)
+    omega (arith, l .inv .3, c .before .loop-test .taken, walk-most (l .inv .4), start .1 .0 .0 .occLong)
 
 wide-requires-4 : tie.Need-wide-requires-4 Inv-loop μ-loop
 wide-requires-4 c κs =
@@ -101,19 +102,9 @@ owe-requires c κs =
     let r = c₁ .wide4 .ensures .0 in
     let more = subst (λ (y : ℕ). l .j < y) (l .inv .3) (c₁ .before .before .loop-test .taken) in
     let now = l .inv .4 in
-    let some = now .sunk .carried .some .1 in (
-      start .0,
-      (
-        (
-          failing-rule _ _ _ _ _ _ _ _ _ (start .0) (start .1 .0 .0) _ _ _ _ _ _ now more _ r,
-          start .1 .0 .1,
-          some .size,
-          some .counts .long,
-          failing-few _ _ _ _ _ _ _ _ _ (start .0) (start .1 .0 .0) _ _ _ _ _ _ now more _ r,
-        ),
-        failing-room _ _ _ _ _ _ _ _ _ (start .0) (start .1 .0 .0) _ _ _ _ _ _ now more _ r,
-      ),
-    )
+    let some = now .state .carried .some .1 in
+    let at = failing-next _ _ _ _ _ _ _ _ _ (start .0) (start .1 .0 .0) _ _ _ _ _ _ now more _ r in
+    (start .0, ((at .below, start .1 .0 .1, some .size, some .counts .long, at .few), at .room))
 
 add-j : tie.Need-add-j Inv-loop μ-loop
 add-j c =
@@ -135,7 +126,7 @@ loop-again c =
       owe .kept .1 .1 .1 .0 ∙ l .inv .1,
       owe .kept .1 .1 .1 .1 .0 ∙ l .inv .2,
       l .inv .3,
-      failing-step _ _ _ _ _ _ _ _ _ (start .0) (start .1 .0 .0) _ _ _ _ _ _ (l .inv .4) more _ (c₂ .wide4 .ensures .0) _ _ _ _ (owe .ensures),
+      failing-next _ _ _ _ _ _ _ _ _ (start .0) (start .1 .0 .0) _ _ _ _ _ _ (l .inv .4) more _ (c₂ .wide4 .ensures .0) .step _ _ _ _ (owe .ensures),
     )
 
 same-length : tie.Need-same-length Inv-loop μ-loop
