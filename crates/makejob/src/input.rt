@@ -11,11 +11,17 @@ pub struct Input {
     pub sound: bool,
 }
 
-// The room for a text: the 1,048,576 bytes that it may have, and one more, so that a longer one shows.
-pub fn room() -> [u8; 1048577]
+// The most bytes that a text may have.
+pub const MOST_BYTES: usize = 1048576;
+
+// One byte more, so that a longer text shows.
+const ROOM: usize = MOST_BYTES + 1;
+
+// The room for a text.
+pub fn room() -> [u8; ROOM]
     ensures { λ r. ⌜ 1048577 ≡ length r ⌝ }
 {
-    [0u8; 1048577]
+    [0u8; ROOM]
 }
 
 fn read_once(part: &mut [u8]) -> Input

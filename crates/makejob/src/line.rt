@@ -1,10 +1,13 @@
-// The lines of a text, numbered from 1.
+// The lines of a text, numbered from 1. The contracts cite specs/Pieces.
 ghost use mathlib.Core.Path.{_≡_};
 ghost use Prim.Native.Nat.{_≤_};
-ghost use lib.ListN.{length, getD};
+ghost use lib.ListN.{length, getD, drop};
+ghost use Rattle.makejob.specs.Pieces.{isFeed, firstAt, lessAt, fromLine, lineOf, hasFeed};
 
 // One line less to pass where a line ends.
-fn less_at(left: usize, b: u8) -> usize {
+fn less_at(left: usize, b: u8) -> usize
+    ensures { λ r. ⌜ r ≡ lessAt left b ⌝ }
+{
     if b != b'\n' {
         return left;
     }
@@ -16,7 +19,7 @@ fn less_at(left: usize, b: u8) -> usize {
 
 // Where a line starts; the text's end where there is no such line.
 fn line_start(text: &[u8], line: usize) -> usize
-    ensures { λ r. ⌜ r ≤ length (now (text .entry)) ⌝ }
+    ensures { λ r. ⌜ (drop r (now (text .entry)) ≡ fromLine (now (text .entry)) line) × (r ≤ length (now (text .entry))) ⌝ }
 {
     let mut left = line;
     for i in 0..text.len() {
@@ -31,7 +34,7 @@ fn line_start(text: &[u8], line: usize) -> usize
 // Where the line that starts at `start` ends: at its line feed, or at the text's end.
 fn line_end(text: &[u8], start: usize) -> usize
     requires { ⌜ start ≤ length (now text) ⌝ }
-    ensures { λ r. ⌜ (start ≤ r) × (r ≤ length (now (text .entry))) ⌝ }
+    ensures { λ r. ⌜ (r ≡ firstAt isFeed (now (text .entry)) start) × (start ≤ r) × (r ≤ length (now (text .entry))) ⌝ }
 {
     let mut end = start;
     while end < text.len() {
@@ -44,13 +47,17 @@ fn line_end(text: &[u8], start: usize) -> usize
 }
 
 // A line's bytes, without its line feed.
-pub fn line_of(text: &[u8], line: usize) -> &[u8] {
+pub fn line_of(text: &[u8], line: usize) -> &[u8]
+    ensures { λ r. ⌜ now r ≡ lineOf (now (text .entry)) line ⌝ }
+{
     let start = line_start(text, line);
     let end = line_end(text, start);
     &text[start..end]
 }
 
-pub fn has_line_feed(text: &[u8], line: usize) -> bool {
+pub fn has_line_feed(text: &[u8], line: usize) -> bool
+    ensures { λ r. ⌜ r ≡ hasFeed (now (text .entry)) line ⌝ }
+{
     line_end(text, line_start(text, line)) < text.len()
 }
 

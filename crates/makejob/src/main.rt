@@ -1,5 +1,6 @@
 // Rules typed as lines: reads a text from standard input and writes its job to standard output. A text that is refused
-// gives no byte there, and one line on standard error: which line is at fault, why, and what would do.
+// gives no byte there, and one line on standard error: which line is at fault, why, and what would do. `make_job` (typed) has the
+// contract of what is written; no contract can say that the system writes it.
 mod digits;
 mod input;
 mod limits;
@@ -11,10 +12,9 @@ mod sort;
 mod typed;
 
 use job::Check;
+use job::checks;
 use libc::STDOUT_FILENO;
 use said::say;
-
-const MOST_BYTES: usize = 1048576;
 
 // Check 14 or 15 in words. 16 can't come, since the buffer has room for the largest job.
 fn say_refusal(text: &[u8], number: u32, line: usize) {
@@ -36,7 +36,7 @@ fn write_job(job: &[u8]) {
 }
 
 fn make(text: &[u8], out: &mut [u8]) {
-    if MOST_BYTES < text.len() {
+    if input::MOST_BYTES < text.len() {
         say(
             b"makejob: the text has over 1,048,576 bytes, more than the lines of any job; split the field\n",
         );
@@ -53,7 +53,7 @@ fn make(text: &[u8], out: &mut [u8]) {
 
 fn main() {
     let mut text = input::room();
-    let mut out = [0u8; 61476];
+    let mut out = [0u8; checks::MOST_BYTES];
     let read = input::read_text(&mut text);
     let length = read.length;
     if !read.sound {

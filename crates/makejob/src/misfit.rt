@@ -1,6 +1,9 @@
-// Check 14 in words, behind the line's number: what doesn't fit, the line, and what would.
+// Check 14 in words, behind the line's number: what doesn't fit, the line, and what would. The contract cites specs/Faults; the
+// functions that only write words have none (`said`).
+ghost use mathlib.Core.Path.{_≡_};
 ghost use Prim.Native.Nat.{_≤_};
 ghost use lib.ListN.{length};
+ghost use Rattle.makejob.specs.Faults.{faultAt};
 use crate::line;
 use crate::said;
 use crate::said::say;
@@ -27,7 +30,7 @@ fn say_what(sort: Sort, column: usize) {
 
 // The byte at fault: the first of a rule behind a question, whatever fits in it.
 fn fault_at(sort: Sort, at: usize) -> usize
-    ensures { λ r. ⌜ r ≤ at ⌝ }
+    ensures { λ r. ⌜ (r ≡ faultAt sort at) × (r ≤ at) ⌝ }
 {
     match sort {
         Sort::LateRule => 0,

@@ -1,5 +1,8 @@
-// What is said on standard error: words, numbers, and parts of the text.
+// What is said on standard error: words, numbers, and parts of the text. No contract can say which bytes a call of the system writes,
+// so a function that only writes words has none, here and in the modules above: it is safe, it ends, and a stored test holds its words.
+ghost use mathlib.Core.Path.{_≡_};
 ghost use Prim.Native.Nat.{_≤_};
+ghost use Rattle.makejob.specs.Faults.{shown as shownOf};
 use libc::STDERR_FILENO;
 
 // The most bytes of a part that are shown.
@@ -14,7 +17,9 @@ pub fn say_number(number: usize) {
 }
 
 // `?` for a byte that can't be printed.
-fn printable(b: u8) -> u8 {
+fn printable(b: u8) -> u8
+    ensures { λ r. ⌜ r ≡ shownOf b ⌝ }
+{
     if b < 32 {
         return b'?';
     }
@@ -36,7 +41,7 @@ fn least(a: usize, b: usize) -> usize
 // The first bytes of a part, and `..` where there are more.
 pub fn say_part(part: &[u8]) {
     let n = least(part.len(), SHOWN);
-    let mut shown = [0u8; 60];
+    let mut shown = [0u8; SHOWN];
     for i in 0..n {
         shown[i] = printable(part[i]);
     }

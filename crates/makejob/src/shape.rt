@@ -1,6 +1,9 @@
-// How far a line fits what may stand there, by the machine that reads a text.
+// How far a line fits what may stand there, by the machine that reads a text. The contracts cite specs/Faults.
+ghost use mathlib.Core.Path.{_≡_};
 ghost use Prim.Native.Nat.{_≤_};
 ghost use lib.ListN.{length};
+ghost use Rattle.base.specs.Choose.{pick};
+ghost use Rattle.makejob.specs.Faults.{reachOf};
 use lines::State;
 use lines::grammar;
 
@@ -11,7 +14,9 @@ pub struct Reach {
 }
 
 // A line behind a question too starts as any: `sort` tells a rule there.
-fn start_of(first: bool) -> State {
+fn start_of(first: bool) -> State
+    ensures { λ r. ⌜ r ≡ pick first State.FirstLine State.AnyLine ⌝ }
+{
     if first {
         return State::FirstLine;
     }
@@ -19,6 +24,7 @@ fn start_of(first: bool) -> State {
 }
 
 pub fn reach_of(line: &[u8], first: bool) -> Reach
+    ensures { λ r. ⌜ r ≡ reachOf first (now (line .entry)) ⌝ }
     ensures { λ r. ⌜ r .at ≤ length (now (line .entry)) ⌝ }
 {
     let mut state = start_of(first);

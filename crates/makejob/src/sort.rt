@@ -1,4 +1,6 @@
-// What sort of fault a line has that doesn't fit.
+// What sort of fault a line has that doesn't fit. The contracts cite specs/Faults.
+ghost use mathlib.Core.Path.{_≡_};
+ghost use Rattle.makejob.specs.Faults.{isLate as lateOf, sortOfByte, sortAtEnd, sortIn, sortOf};
 use crate::line;
 use crate::shape::Reach;
 use lines::grammar;
@@ -16,7 +18,9 @@ pub enum Sort {
 }
 
 // Whether a line is a rule and the one before it a question.
-fn is_late(text: &[u8], line: usize) -> bool {
+fn is_late(text: &[u8], line: usize) -> bool
+    ensures { λ r. ⌜ r ≡ lateOf (now (text .entry)) line ⌝ }
+{
     if line < 2 {
         return false;
     }
@@ -29,7 +33,9 @@ fn is_late(text: &[u8], line: usize) -> bool {
 }
 
 // Of the byte that doesn't fit, and the one before it.
-fn sort_of_byte(before: u8, b: u8) -> Sort {
+fn sort_of_byte(before: u8, b: u8) -> Sort
+    ensures { λ r. ⌜ r ≡ sortOfByte before b ⌝ }
+{
     if b == b'\r' {
         return Sort::Return;
     }
@@ -43,7 +49,9 @@ fn sort_of_byte(before: u8, b: u8) -> Sort {
 }
 
 // Of a line that has nothing behind what fits.
-fn sort_at_end(line: &[u8], whole: bool, ended: bool) -> Sort {
+fn sort_at_end(line: &[u8], whole: bool, ended: bool) -> Sort
+    ensures { λ r. ⌜ r ≡ sortAtEnd (now (line .entry)) whole ended ⌝ }
+{
     if 0 < line.len() {
         if whole {
             return Sort::Unended;
@@ -56,7 +64,9 @@ fn sort_at_end(line: &[u8], whole: bool, ended: bool) -> Sort {
     Sort::Empty
 }
 
-fn sort_in(line: &[u8], reach: Reach, ended: bool) -> Sort {
+fn sort_in(line: &[u8], reach: Reach, ended: bool) -> Sort
+    ensures { λ r. ⌜ r ≡ sortIn (now (line .entry)) reach ended ⌝ }
+{
     let at = reach.at;
     if line.len() <= at {
         return sort_at_end(line, reach.whole, ended);
@@ -67,7 +77,9 @@ fn sort_in(line: &[u8], reach: Reach, ended: bool) -> Sort {
     sort_of_byte(line[at - 1], line[at])
 }
 
-pub fn sort_of(text: &[u8], number: usize, reach: Reach) -> Sort {
+pub fn sort_of(text: &[u8], number: usize, reach: Reach) -> Sort
+    ensures { λ r. ⌜ r ≡ sortOf (now (text .entry)) number reach ⌝ }
+{
     if is_late(text, number) {
         return Sort::LateRule;
     }

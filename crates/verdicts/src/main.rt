@@ -1,5 +1,7 @@
 // The listing program: reads a job with its schedule from standard input, writes the listing to standard output and, where the
 // input is refused, one line on standard error that says in words what is wrong and where. An input that can't be read is not listed.
+// `list` of crate listing has the contract of what is written; no contract can say that the system writes it, so the functions here
+// have none: they are safe, they end, and stored tests hold their words.
 mod input;
 
 use job::Check;
