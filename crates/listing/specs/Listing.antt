@@ -133,9 +133,9 @@ mostWords = 13384
 abbrev pub mostText : ℕ
 mostText = 196608
 
--- "Refused first, by number and place and with no lent memory altered: .. an output too short." (00, demand 1). The number is that of
--- order 1, the place the bytes needed, and the row is the last. How long a text is shows only once the turns are played, so what is
--- needed is room for every text. `listing i` goes by listingCheck i: no line says 16, since nothing is written where there is no room.
+-- demand 1: "Refused first, by number and place and with no lent memory altered: .. an output too short." The number is that of order 1,
+-- the place the bytes needed, and the row is the last. How long a text is shows only once the turns are played, so what is needed is
+-- room for every text. `listing i` goes by listingCheck i: no line says 16, since nothing is written where there is no room.
 unfoldable pub listCheck : List ℕ → ℕ → Check
 listCheck i n = listingCheck i ⨾ row (under n mostText) 16 mostText
 

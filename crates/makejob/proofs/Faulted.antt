@@ -10,7 +10,7 @@ use borrow.Author.Tests.{eq-eqb, ne-eqb}
 use lib.Dec.{eqb}
 use lib.ListN.{length, getD}
 use Rattle.base.proofs.Choose.{pick-true, pick-false}
-use Rattle.base.proofs.Compare.{under-yes, under-no, notBelow-yes, notBelow-no}
+use Rattle.base.proofs.Compare.{under-no, notBelow-yes, notBelow-no}
 use Rattle.lines.specs.Grammar.{isDigit}
 use Rattle.makejob.specs.Pieces.{lineOf, hasFeed}
 use Rattle.makejob.specs.Faults.{isLate, sortOfByte, sortAtEnd, sortIn, sortOf}

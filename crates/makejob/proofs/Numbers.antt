@@ -3,7 +3,7 @@
 --   digit-not                        the test for a number's end
 --   number-is                        a number, from its start and its end
 --   past-start, past-here, past-more, past-end   the first number; one that is not below the bound; one that is; no more numbers
-use Prim.Native.Nat.{ℕ, zero, suc, _+_, _-_, _<_, _≤_}
+use Prim.Native.Nat.{ℕ, zero, suc, _+_, _<_, _≤_}
 use mathlib.Core.List.{List}
 use mathlib.Core.Path.{_≡_, refl, sym, _∙_, ap, ap₂}
 use mathlib.Core.Bool.{Bool, not}

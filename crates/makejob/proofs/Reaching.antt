@@ -11,7 +11,6 @@ use Rattle.base.proofs.Choose.{pick-true, pick-false}
 use Rattle.lines.specs.Grammar.{step, isBad}
 use Rattle.lines.specs.declared.State.{State}
 use Rattle.makejob.specs.Faults.{reachFrom}
-use Rattle.makejob.specs.declared.shape.Reach.{Reach}
 
 module _ (st : State) (s : List ℕ) (i : ℕ) where
   pub reach-more : i < length s → isBad (step st (getD s i 0)) ≡ false → reachFrom (step st (getD s i 0)) (i + 1) (drop (i + 1) s) ≡ reachFrom st i (drop i s)

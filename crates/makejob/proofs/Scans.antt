@@ -1,6 +1,5 @@
 -- The first byte that passes a test, and the lines of a text, byte by byte. Assumes nothing.
 --   first-stop, first-more, first-end   at a byte that passes; over one that doesn't; at the end
---   first-low, first-high   where it may stand
 --   part-is             the bytes up to it, as a part of a slice reads them
 --   some-is             whether there is one, as places compare
 --   feeds-step          one byte on the way to a line; feeds-none   at its start; feeds-end   at the text's end
@@ -39,15 +38,6 @@ module _ (p : ℕ → Bool) where
     pub first-end : length s ≤ i → i ≡ firstAt p s i
     unfolding firstAt upTo
     first-end h = rw (drop-of-length-le s h) (omega arith)
-
-  short : (x : List ℕ) → length (upTo p x) ≤ length x
-  unfolding upTo pick
-  short [] = omega arith
-  short (b ∷ x) = go (p b) (short x)
-    where
-      go : (t : Bool) → length (upTo p x) ≤ length x → length (pick t [] (b ∷ upTo p x)) ≤ suc (length x)
-      go true h = omega arith
-      go false h = omega arith
 
   front : (x : List ℕ) → take (length (upTo p x)) x ≡ upTo p x
   unfolding upTo pick
@@ -89,14 +79,6 @@ module _ (p : ℕ → Bool) where
       go : {m : Bool} → Met (drop i s) m → ltb end (length s) ≡ m
       go (found l) = lt-ltb end (length s) (omega (arith, length-drop i s, e))
       go (lacks l) = le-ltb end (length s) (omega (arith, length-drop i s, e))
-
-  pub first-low : (s : List ℕ) (i : ℕ) → i ≤ firstAt p s i
-  unfolding firstAt
-  first-low s i = omega arith
-
-  pub first-high : (s : List ℕ) (i : ℕ) → i ≤ length s → firstAt p s i ≤ length s
-  unfolding firstAt
-  first-high s i h = omega (arith, short (drop i s), length-drop i s)
 
 -- the way to a line
 feeds-out : (n : ℕ) → behindFeeds n [] ≡ []

@@ -9,7 +9,7 @@
 --   shown b             a byte as it is shown: `?` for one that can't be printed
 --   faultAt sort at     the byte at fault, where what fits ends before byte `at`: the first of a rule behind a question
 use Prim.Native.Nat.{ℕ, _+_, _-_}
-use mathlib.Core.Bool.{Bool, true, false, not, _&&_}
+use mathlib.Core.Bool.{Bool, false, not, _&&_}
 use mathlib.Core.List.{List, [], _∷_}
 use lib.Dec.{eqb}
 use lib.ListN.{length, getD}

@@ -4,7 +4,6 @@ use mathlib.Core.Path.{_≡_, refl, _∙_}
 use borrow.Author.Needs.{needs}
 use native.Mathlib.Omega.{arith}
 use lib.ListN.{length}
-use Rattle.lines.specs.Grammar.{isDigit}
 use Rattle.makejob.specs.Pieces.{notDigit, firstAt}
 use Rattle.makejob.proofs.Numbers.{digit-not}
 use Rattle.makejob.proofs.Scans.{first-stop, first-more, first-end}
