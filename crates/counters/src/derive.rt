@@ -15,6 +15,7 @@ ghost use Rattle.counters.specs.Counters.{Aim, Growing, Ready, Paid, Rai
 use crate::FALSE;
 use crate::TRUE;
 use crate::occurrences;
+use base::wide;
 use job::format;
 
 // Claim c joins w and the queue, unless it is in w. How many keys the queue then has.
@@ -70,12 +71,12 @@ fn hold(
     requires { ⌜ ((a : Aim) × Growing (now job) a (owners (now job)) (now count) (now w) (now queue) i (literals (now job)) bottom) × (Ready (now job) (now count) (now w) (rules (now job))) ⌝ }
     ensures { λ r. ⌜ (i < r) × (Raised (now (job .entry)) (owners (now (job .entry))) (now (count .entry)) (now (w .entry)) (now (queue .entry)) i bottom (now (count .exit)) (now (w .exit)) (now (queue .exit)) (i + 1) (literals (now (job .entry))) r) ⌝ }
 {
-    let key = occurrences::wide(queue[i]);
-    let end = occurrences::wide(start[key + 1]);
-    let mut j = occurrences::wide(start[key]);
+    let key = wide::half(queue[i]);
+    let end = wide::half(start[key + 1]);
+    let mut j = wide::half(start[key]);
     let mut top = bottom;
     while j < end {
-        let r = occurrences::wide(occ[j]);
+        let r = wide::half(occ[j]);
         top = pay(job, count, w, queue, r, top);
         j += 1;
     }

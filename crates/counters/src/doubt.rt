@@ -10,6 +10,7 @@ ghost use Rattle.job.specs.Format.{claims, rules, literals, headAt};
 ghost use Rattle.counters.specs.Positions.{owners, Placed};
 ghost use Rattle.counters.specs.Doubts.{Stand, stays, Left, Owed, Falling, Sunk, Negations};
 use crate::occurrences;
+use base::wide;
 use job::format;
 
 // Claim c leaves u for the list, unless it is outside u or in k. How many keys the list then has.
@@ -70,12 +71,12 @@ fn fall(
     requires { ⌜ ((b : Stand) × Falling (now job) b (setOf (now k)) (owners (now job)) (now fail) (now u) (now list) i (literals (now job)) bottom) ⌝ }
     ensures { λ r. ⌜ (i < r) × (Sunk (now (job .entry)) (now (k .entry)) (owners (now (job .entry))) (now (fail .entry)) (now (u .entry)) (now (list .entry)) i bottom (now (fail .exit)) (now (u .exit)) (now (list .exit)) (i + 1) (literals (now (job .entry))) r) ⌝ }
 {
-    let key = occurrences::wide(list[i]);
-    let end = occurrences::wide(start[key + 1]);
-    let mut j = occurrences::wide(start[key]);
+    let key = wide::half(list[i]);
+    let end = wide::half(start[key + 1]);
+    let mut j = wide::half(start[key]);
     let mut top = bottom;
     while j < end {
-        let r = occurrences::wide(occ[j]);
+        let r = wide::half(occ[j]);
         top = owe(job, k, fail, u, list, r, top);
         j += 1;
     }

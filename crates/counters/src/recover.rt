@@ -12,6 +12,7 @@ ghost use Rattle.counters.specs.Counters.{Idle};
 ghost use Rattle.counters.specs.Doubts.{Doubted, Lost, Recovered};
 use crate::derive;
 use crate::occurrences;
+use base::wide;
 use job::format;
 
 // Whether one of the rules of claim c, of which `end` is one more than the last, counts nothing.
@@ -52,8 +53,8 @@ pub fn recover(
     let mut top = 0;
     let mut i = from;
     while i < end {
-        let c = occurrences::wide(list[i]) / 2;
-        if standing(job, fail, c, occurrences::wide(tail[c])) {
+        let c = wide::half(list[i]) / 2;
+        if standing(job, fail, c, wide::half(tail[c])) {
             top = derive::join(u, queue, top, c);
         }
         i += 1;
@@ -78,7 +79,7 @@ pub fn lose(
     let mut i = from;
     while i < end {
         let key = list[i];
-        if u[occurrences::wide(key) / 2] == 0 {
+        if u[wide::half(key) / 2] == 0 {
             queue[top] = key + 1;
             top += 1;
         }

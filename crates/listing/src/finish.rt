@@ -12,14 +12,16 @@ ghost use Rattle.turn.specs.Turn.{runTable, runKinds};
 ghost use Rattle.calls.specs.Calls.{counted as countedOf};
 ghost use Rattle.turn.specs.Ready.{Ready};
 ghost use Rattle.listing.specs.Finish.{answeredAll, nextWorker, finishTurns, most};
+use base::wide;
 use calls::tally;
 use job::ClaimIndex;
+use job::checks::MOST_WORKERS;
 use job::format;
 use table::checks;
 use table::words;
 
 // Whether each worker has answered all its questions.
-fn all_answered(job: &[u8], totals: &[u32; 32], table: &[u32]) -> bool
+fn all_answered(job: &[u8], totals: &[u32; MOST_WORKERS], table: &[u32]) -> bool
     requires { ⌜ WellFormed (now job) ⌝ }
     requires { ⌜ InRange (jobOf (now job)) (now table) ⌝ }
     requires { ⌜ Counted (jobOf (now job)) (now totals) ⌝ }
@@ -28,7 +30,7 @@ fn all_answered(job: &[u8], totals: &[u32; 32], table: &[u32]) -> bool
     let claims = format::claim_count(job);
     let workers = format::worker_count(job);
     for w in 0..workers {
-        if words::answered_at(table, claims, w) < words::wide(totals[w]) {
+        if words::answered_at(table, claims, w) < wide::word(totals[w]) {
             return false;
         }
     }

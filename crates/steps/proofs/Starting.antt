@@ -1,15 +1,14 @@
 -- A table as starting leaves it is in range, shows the abstract theory's start, and no verdict yet. Assumes nothing.
 --   Started j t   the header, then zeros
-use mathlib.Core.Path.{_≡_, refl, sym, _∙_, ap}
+use mathlib.Core.Path.{_≡_, sym, _∙_, ap}
 use mathlib.Core.Logic.{inl, by-cases}
 use mathlib.Core.Bool.{false, not}
-use mathlib.Core.List.{List, _++_}
-use Prim.Native.Nat.{ℕ, _+_, _*_, _-_, _≤_, _<_}
+use mathlib.Core.List.{List}
+use Prim.Native.Nat.{ℕ, _≤_, _<_}
 use native.Mathlib.Omega.{arith}
 use native.Mathlib.Decide.{decLt}
 use borrow.Author.Tests.{eq-eqb}
-use lib.ListN.{length, getD, drop, replicate, length-append, length-drop, length-replicate, getD-replicate, List·getD-append}
-use lib.Seq.{getD-append-add}
+use lib.ListN.{length, getD}
 use Rattle.base.proofs.Sets.{count-empty}
 use Rattle.base.proofs.Counts.{count-same}
 use Rattle.job.specs.Job.{Job}
@@ -17,6 +16,7 @@ use Rattle.table.specs.Questions.{askedBy}
 use Rattle.table.specs.Layout as W
 use Rattle.table.specs.Ranges.{marked, InRange}
 use Rattle.table.specs.Start.{startWords}
+use Rattle.table.proofs.Started as S
 use Rattle.waiting.specs.Steps.{Start}
 use Rattle.turn.proofs.Places.{place-low}
 use Rattle.steps.proofs.View.{low, low-in, low-out, view}
@@ -24,43 +24,16 @@ use Rattle.steps.proofs.Verdicts.{Verdicts}
 
 pub record Started (j : Job) (t : List ℕ) : Type 0 where
   pub room : W.used j ≤ length t
-  pub headerIs : (i : ℕ) → i < 7 → getD t i 0 ≡ getD (W.header j) i 0
-  pub zeros : (i : ℕ) → 7 ≤ i → i < W.used j → getD t i 0 ≡ 0
+  pub headerIs : (i : ℕ) → i < W.fixedWords → getD t i 0 ≡ getD (W.header j) i 0
+  pub zeros : (i : ℕ) → W.fixedWords ≤ i → i < W.used j → getD t i 0 ≡ 0
 
 -- what starting writes
 module _ (j : Job) (t : List ℕ) (room : W.used j ≤ length t) where
-  abbrev n : ℕ
-  n = 1 + 3 * j .claims + 2 * j .workers + length (j .questions)
-
-  abbrev rest : List ℕ
-  rest = replicate n 0 ++ drop (W.used j) t
-
-  header-length : length (W.header j) ≡ 7
-  unfolding W.header
-  header-length = refl
-
-  shape : startWords j t ≡ W.header j ++ rest
-  unfolding startWords W.header
-  shape = refl
-
   pub start-length : length (startWords j t) ≡ length t
-  start-length =
-      omega
-      (arith, ap length shape, length-append (W.header j) rest, header-length, length-append (replicate n 0) (drop (W.used j) t), length-replicate {A = ℕ} n 0, length-drop (W.used j) t)
-
-  start-zero : (i : ℕ) → 7 ≤ i → i < W.used j → getD (startWords j t) i 0 ≡ 0
-  start-zero i g l =
-      let e : i ≡ length (W.header j) + (i - 7) = omega (arith, header-length) in
-      ap (λ (u : List ℕ). getD u i 0) shape ∙ ap (λ (k : ℕ). getD (W.header j ++ rest) k 0) e ∙ getD-append-add (W.header j) rest (i - 7) 0
-      ∙ List·getD-append (replicate n 0) (drop (W.used j) t) 0 (i - 7) (omega (arith, length-replicate {A = ℕ} n 0)) ∙ getD-replicate {A = ℕ} n (i - 7) 0 0 (omega arith)
+  start-length = S.start-length j t room
 
   pub start-started : Started j (startWords j t)
-  start-started =
-      record {
-        room = omega (arith, start-length);
-        headerIs = λ i l. ap (λ (u : List ℕ). getD u i 0) shape ∙ List·getD-append (W.header j) rest 0 i (omega (arith, header-length));
-        zeros = start-zero;
-      }
+  start-started = record { room = omega (arith, start-length); headerIs = S.start-header j t; zeros = S.start-zero j t }
 
 module _ {j : Job} {t : List ℕ} (s : Started j t) where
   mark-zero : (c : ℕ) → c < j .claims → W.mark t c ≡ 0
@@ -89,7 +62,7 @@ module _ {j : Job} {t : List ℕ} (s : Started j t) where
       record {
         room = s .room;
         headerIs = s .headerIs;
-        openedIs = s .zeros 7 (omega arith) (omega arith) ∙ sym none-marked;
+        openedIs = s .zeros W.openedWord (omega arith) (omega arith) ∙ sym none-marked;
         claim = λ c h.
             let m = mark-zero c h in
             let r = cursor-zero c h in

@@ -20,79 +20,79 @@ abbrev μ-loop : tie.MeasureT-loop
 μ-loop job start occ count₀ w₀ queue₀ i bottom key end j₀ top₀ count w queue j top =
     end - j
 
-mul-wide : tie.Need-mul-wide Inv-loop μ-loop
-mul-wide c =
+mul-half : tie.Need-mul-half Inv-loop μ-loop
+mul-half c =
     let start = c .before .before .before .before .before .before .pre in
     omega (arith, queue-top (start .1 .1 .0 .1 .fits .queue), start .1 .0 .1, start .0 .sized .claimsMost)
 
-slice-read-wide : tie.Need-slice-read-wide Inv-loop μ-loop
-slice-read-wide c =
+slice-read-half : tie.Need-slice-read-half Inv-loop μ-loop
+slice-read-half c =
     let start = c .before .before .before .before .before .before .before .pre in
     omega (arith, queue-top (start .1 .1 .0 .1 .fits .queue), start .1 .0 .1, start .1 .1 .0 .1 .fits .queue .long)
 
-wide-requires : tie.Need-wide-requires Inv-loop μ-loop
-wide-requires c κs =
+half-requires : tie.Need-half-requires Inv-loop μ-loop
+half-requires c κs =
     tt
 
-add-wide : tie.Need-add-wide Inv-loop μ-loop
-add-wide c =
+add-half : tie.Need-add-half Inv-loop μ-loop
+add-half c =
     let start = c .before .before .before .before .before .before .before .before .pre in
-    omega (arith, c .wide .ensures .0, start .1 .1 .0 .1 .fits .queue .small _ (start .1 .0 .1), start .0 .sized .claimsMost, start .1 .0 .0 .startLong)
+    omega (arith, c .half .ensures .value, start .1 .1 .0 .1 .fits .queue .small _ (start .1 .0 .1), start .0 .sized .claimsMost, start .1 .0 .0 .startLong)
 
-mul-wide-2 : tie.Need-mul-wide-2 Inv-loop μ-loop
-mul-wide-2 c =
+mul-half-2 : tie.Need-mul-half-2 Inv-loop μ-loop
+mul-half-2 c =
     let start = c .before .before .before .before .before .before .before .before .pre in
-    omega (arith, c .wide .ensures .0, start .1 .1 .0 .1 .fits .queue .small _ (start .1 .0 .1), start .0 .sized .claimsMost, start .1 .0 .0 .startLong)
+    omega (arith, c .half .ensures .value, start .1 .1 .0 .1 .fits .queue .small _ (start .1 .0 .1), start .0 .sized .claimsMost, start .1 .0 .0 .startLong)
 
-shared-slice-read-wide : tie.Need-shared-slice-read-wide Inv-loop μ-loop
-shared-slice-read-wide c =
+shared-slice-read-half : tie.Need-shared-slice-read-half Inv-loop μ-loop
+shared-slice-read-half c =
     let start = c .before .before .before .before .before .before .before .before .before .pre in
-    omega (arith, c .before .wide .ensures .0, start .1 .1 .0 .1 .fits .queue .small _ (start .1 .0 .1), start .0 .sized .claimsMost, start .1 .0 .0 .startLong)
+    omega (arith, c .before .half .ensures .value, start .1 .1 .0 .1 .fits .queue .small _ (start .1 .0 .1), start .0 .sized .claimsMost, start .1 .0 .0 .startLong)
 
-wide-requires-2 : tie.Need-wide-requires-2 Inv-loop μ-loop
-wide-requires-2 c κs =
+half-requires-2 : tie.Need-half-requires-2 Inv-loop μ-loop
+half-requires-2 c κs =
     tt
 
-mul-wide-3 : tie.Need-mul-wide-3 Inv-loop μ-loop
-mul-wide-3 c =
+mul-half-3 : tie.Need-mul-half-3 Inv-loop μ-loop
+mul-half-3 c =
     let start = c .before .before .before .before .before .before .before .before .before .before .pre in
-    omega (arith, c .before .before .wide .ensures .0, start .1 .1 .0 .1 .fits .queue .small _ (start .1 .0 .1), start .0 .sized .claimsMost, start .1 .0 .0 .startLong)
+    omega (arith, c .before .before .half .ensures .value, start .1 .1 .0 .1 .fits .queue .small _ (start .1 .0 .1), start .0 .sized .claimsMost, start .1 .0 .0 .startLong)
 
-shared-slice-read-wide-2 : tie.Need-shared-slice-read-wide-2 Inv-loop μ-loop
-shared-slice-read-wide-2 c =
+shared-slice-read-half-2 : tie.Need-shared-slice-read-half-2 Inv-loop μ-loop
+shared-slice-read-half-2 c =
     let start = c .before .before .before .before .before .before .before .before .before .before .before .pre in
-    omega (arith, c .before .before .before .wide .ensures .0, start .1 .1 .0 .1 .fits .queue .small _ (start .1 .0 .1), start .0 .sized .claimsMost, start .1 .0 .0 .startLong)
+    omega (arith, c .before .before .before .half .ensures .value, start .1 .1 .0 .1 .fits .queue .small _ (start .1 .0 .1), start .0 .sized .claimsMost, start .1 .0 .0 .startLong)
 
-wide-requires-3 : tie.Need-wide-requires-3 Inv-loop μ-loop
-wide-requires-3 c κs =
+half-requires-3 : tie.Need-half-requires-3 Inv-loop μ-loop
+half-requires-3 c κs =
     tt
 
 loop-holds : tie.Need-loop-holds Inv-loop μ-loop
 loop-holds c =
     let start = c .before .before .before .before .before .before .before .before .before .before .before .before .pre in
     let last = c .before .before .before .before .before .before .before .before .before .before .before .before .args .start .now in
-    let k = c .before .before .before .before .wide .ensures .0 in
+    let k = c .before .before .before .before .half .ensures .value in
     let small = start .1 .1 .0 .1 .fits .queue .small _ (start .1 .0 .1) in (
       refl,
       refl,
       refl,
-      c .before .before .wide2 .ensures .0 ∙ start .1 .0 .0 .starts _ (omega (arith, k, small)),
+      c .before .before .half2 .ensures .value ∙ start .1 .0 .0 .starts _ (omega (arith, k, small)),
       taking-start _ _ _ _ _ _ _ _ (start .0) (start .1 .0 .0) (start .1 .0 .1) (start .1 .1 .0) (start .1 .1 .1) _ _ k
-          (c .wide3 .ensures .0 ∙ start .1 .0 .0 .starts _ (omega (arith, k, small))),
+          (c .half3 .ensures .value ∙ start .1 .0 .0 .starts _ (omega (arith, k, small))),
     )
 
-mul-wide-4 : tie.Need-mul-wide-4 Inv-loop μ-loop
-mul-wide-4 c =
-    omega (arith, c .before .before .before .before .wide2 .ensures .1)
+mul-half-4 : tie.Need-mul-half-4 Inv-loop μ-loop
+mul-half-4 c =
+    omega (arith, c .before .before .before .before .half2 .ensures .small)
 
-shared-slice-read-wide-3 : tie.Need-shared-slice-read-wide-3 Inv-loop μ-loop
-shared-slice-read-wide-3 c =
+shared-slice-read-half-3 : tie.Need-shared-slice-read-half-3 Inv-loop μ-loop
+shared-slice-read-half-3 c =
     let start = c .before .before .before .before .before .before .before .before .before .before .before .before .before .before .before .pre in
     let l = c .before .before .loop in
     omega (arith, l .inv .3, c .before .loop-test .taken, walk-most (l .inv .4), start .1 .0 .0 .occLong)
 
-wide-requires-4 : tie.Need-wide-requires-4 Inv-loop μ-loop
-wide-requires-4 c κs =
+half-requires-4 : tie.Need-half-requires-4 Inv-loop μ-loop
+half-requires-4 c κs =
     tt
 
 pay-requires : tie.Need-pay-requires Inv-loop μ-loop
@@ -100,7 +100,7 @@ pay-requires c κs =
     let c₁ = c .before .before .before in
     let l = c₁ .before .before .before .loop in
     let start = c₁ .before .before .before .before .before .before .before .before .before .before .before .before .before .before .before .before .pre in
-    let r = c₁ .wide4 .ensures .0 in
+    let r = c₁ .half4 .ensures .value in
     let more = subst (λ (y : ℕ). l .j < y) (l .inv .3) (c₁ .before .before .loop-test .taken) in
     let now = l .inv .4 in
     let some = now .state .carried .some .1 in
@@ -109,7 +109,7 @@ pay-requires c κs =
 
 add-j : tie.Need-add-j Inv-loop μ-loop
 add-j c =
-    omega (arith, c .before .before .before .before .before .before .before .before .before .before .before .before .before .before .before .before .wide2 .ensures .1)
+    omega (arith, c .before .before .before .before .before .before .before .before .before .before .before .before .before .before .before .before .half2 .ensures .small)
 
 loop-less : tie.Need-loop-less Inv-loop μ-loop
 loop-less c =
@@ -127,7 +127,7 @@ loop-again c =
       pay .kept .1 .1 .0 ∙ l .inv .1,
       pay .kept .1 .1 .1 .0 ∙ l .inv .2,
       l .inv .3,
-      taking-next _ _ _ _ _ _ _ _ (start .0) (start .1 .0 .0) _ _ _ _ _ _ (l .inv .4) more _ (c₂ .wide4 .ensures .0) .step _ _ _ _ (pay .ensures),
+      taking-next _ _ _ _ _ _ _ _ (start .0) (start .1 .0 .0) _ _ _ _ _ _ (l .inv .4) more _ (c₂ .half4 .ensures .value) .step _ _ _ _ (pay .ensures),
     )
 
 same-length : tie.Need-same-length Inv-loop μ-loop
@@ -154,20 +154,20 @@ hold-spec =
     (tie.spec
     Inv-loop
     μ-loop
-    mul-wide
-    slice-read-wide
-    wide-requires
-    add-wide
-    mul-wide-2
-    shared-slice-read-wide
-    wide-requires-2
-    mul-wide-3
-    shared-slice-read-wide-2
-    wide-requires-3
+    mul-half
+    slice-read-half
+    half-requires
+    add-half
+    mul-half-2
+    shared-slice-read-half
+    half-requires-2
+    mul-half-3
+    shared-slice-read-half-2
+    half-requires-3
     loop-holds
-    mul-wide-4
-    shared-slice-read-wide-3
-    wide-requires-4
+    mul-half-4
+    shared-slice-read-half-3
+    half-requires-4
     pay-requires
     add-j
     loop-less

@@ -32,18 +32,18 @@ shared-slice-read-key c =
     let d = c .before .before .before .before .before .before .pre .0 .0 in
     omega (arith, queue-top (d .queue), d .queue .long)
 
-wide-requires : tie.Need-wide-requires Inv-loop μ-loop
-wide-requires c κs = tt
+half-requires : tie.Need-half-requires Inv-loop μ-loop
+half-requires c κs = tt
 
 -- the key that was read is twice its claim
 read :
-    (c : tie.After-wide Inv-loop μ-loop)
+    (c : tie.After-half Inv-loop μ-loop)
     → getD (c .before .before .before .before .before .before .before .args .list .now) (c .before .before .before .loop .i) 0
-    ≡ 2 * (c .wide .result / 2)
+    ≡ 2 * (c .half .result / 2)
 read c =
     let l = c .before .before .before in
     let d = l .before .before .before .before .pre .0 .0 in
-    doubted-key d (l .loop .i) (l .loop .inv .0) (c .before .before .loop-test .taken) (c .wide .result / 2) (omega (arith, c .wide .ensures))
+    doubted-key d (l .loop .i) (l .loop .inv .0) (c .before .before .loop-test .taken) (c .half .result / 2) (omega (arith, c .half .ensures))
 
 shared-slice-read-if1 : tie.Need-shared-slice-read-if1 Inv-loop μ-loop
 shared-slice-read-if1 c =
@@ -59,7 +59,7 @@ add-queue c =
     omega (
       arith,
       read c₁,
-      doubted-small d (l .loop .i) (l .loop .inv .0) (c₁ .before .before .loop-test .taken) (c₁ .wide .result / 2) (read c₁),
+      doubted-small d (l .loop .i) (l .loop .inv .0) (c₁ .before .before .loop-test .taken) (c₁ .half .result / 2) (read c₁),
     )
 
 -- there is room for one more key
@@ -120,7 +120,7 @@ lose-spec =
     loop-holds
     mul-key
     shared-slice-read-key
-    wide-requires
+    half-requires
     shared-slice-read-if1
     add-queue
     mul-queue

@@ -29,43 +29,43 @@ loop-holds c =
 abbrev given : tie.At-loop Inv-loop μ-loop → tie.Start Inv-loop μ-loop
 given l = l .before .before .before .before .before .before .before
 
-mul-wide : tie.Need-mul-wide Inv-loop μ-loop
-mul-wide c = let d = given (c .before) .pre .1 .0 .2 in omega (arith, queue-top (d .queue), d .queue .long)
+mul-half : tie.Need-mul-half Inv-loop μ-loop
+mul-half c = let d = given (c .before) .pre .1 .0 .2 in omega (arith, queue-top (d .queue), d .queue .long)
 
-shared-slice-read-wide : tie.Need-shared-slice-read-wide Inv-loop μ-loop
-shared-slice-read-wide c = let d = given (c .before .before) .pre .1 .0 .2 in omega (arith, queue-top (d .queue), d .queue .long)
+shared-slice-read-half : tie.Need-shared-slice-read-half Inv-loop μ-loop
+shared-slice-read-half c = let d = given (c .before .before) .pre .1 .0 .2 in omega (arith, queue-top (d .queue), d .queue .long)
 
-wide-requires : tie.Need-wide-requires Inv-loop μ-loop
-wide-requires c κs = tt
+half-requires : tie.Need-half-requires Inv-loop μ-loop
+half-requires c κs = tt
 
 -- the key that was read is twice its claim, and that is one of the claims
 read :
-    (c : tie.After-wide Inv-loop μ-loop)
-    → getD (given (c .before .before .before) .args .list .now) (c .before .before .before .loop .i) 0 ≡ 2 * (c .wide .result / 2)
+    (c : tie.After-half Inv-loop μ-loop)
+    → getD (given (c .before .before .before) .args .list .now) (c .before .before .before .loop .i) 0 ≡ 2 * (c .half .result / 2)
 read c =
     let l = c .before .before .before in
-    doubted-key (given l .pre .1 .0 .2) (l .loop .i) (l .loop .inv .0) (c .before .before .loop-test .taken) (c .wide .result / 2)
-    (omega (arith, c .wide .ensures))
+    doubted-key (given l .pre .1 .0 .2) (l .loop .i) (l .loop .inv .0) (c .before .before .loop-test .taken) (c .half .result / 2)
+    (omega (arith, c .half .ensures))
 
-small : (c : tie.After-wide Inv-loop μ-loop) → c .wide .result / 2 < claims (given (c .before .before .before) .args .job .now)
+small : (c : tie.After-half Inv-loop μ-loop) → c .half .result / 2 < claims (given (c .before .before .before) .args .job .now)
 small c =
     let l = c .before .before .before in
     doubted-small (given l .pre .1 .0 .2) (l .loop .i) (l .loop .inv .0) (c .before .before .loop-test .taken) _ (read c)
 
-mul-wide-2 : tie.Need-mul-wide-2 Inv-loop μ-loop
-mul-wide-2 c = omega arith
+mul-half-2 : tie.Need-mul-half-2 Inv-loop μ-loop
+mul-half-2 c = omega arith
 
-shared-slice-read-wide-2 : tie.Need-shared-slice-read-wide-2 Inv-loop μ-loop
-shared-slice-read-wide-2 c = omega (arith, small (c .before), given (c .before .before .before .before) .pre .1 .0 .0 .long)
+shared-slice-read-half-2 : tie.Need-shared-slice-read-half-2 Inv-loop μ-loop
+shared-slice-read-half-2 c = omega (arith, small (c .before), given (c .before .before .before .before) .pre .1 .0 .0 .long)
 
-wide-requires-2 : tie.Need-wide-requires-2 Inv-loop μ-loop
-wide-requires-2 c κs = tt
+half-requires-2 : tie.Need-half-requires-2 Inv-loop μ-loop
+half-requires-2 c κs = tt
 
 standing-requires : tie.Need-standing-requires Inv-loop μ-loop
 standing-requires c κs =
     let c₁ = c .before .before in
     let pre = given (c₁ .before .before .before) .pre in
-    (pre .0, (subst⁻¹ (Latest (headAt _) _ _) (c .wide2 .ensures .0) (pre .1 .0 .0 .ends _ (small c₁)), pre .1 .0 .1))
+    (pre .0, (subst⁻¹ (Latest (headAt _) _ _) (c .half2 .ensures .value) (pre .1 .0 .0 .ends _ (small c₁)), pre .1 .0 .1))
 
 join-requires : tie.Need-join-requires Inv-loop μ-loop
 join-requires c κs =
@@ -113,12 +113,12 @@ recover-spec =
     Inv-loop
     μ-loop
     loop-holds
-    mul-wide
-    shared-slice-read-wide
-    wide-requires
-    mul-wide-2
-    shared-slice-read-wide-2
-    wide-requires-2
+    mul-half
+    shared-slice-read-half
+    half-requires
+    mul-half-2
+    shared-slice-read-half-2
+    half-requires-2
     standing-requires
     join-requires
     add-i

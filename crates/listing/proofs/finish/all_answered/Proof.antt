@@ -27,14 +27,14 @@ answered-at-requires : tie.Need-answered-at-requires Inv-loop μ-loop
 unfolding jobOf
 answered-at-requires c κs = let p = c .before .before .before .before .before .before .pre in omega (arith, p .1 .0 .room)
 
-mul-wide : tie.Need-mul-wide Inv-loop μ-loop
-mul-wide c = omega arith
+mul-word : tie.Need-mul-word Inv-loop μ-loop
+mul-word c = omega arith
 
-element-copy-out-wide : tie.Need-element-copy-out-wide Inv-loop μ-loop
-element-copy-out-wide c = omega arith
+element-copy-out-word : tie.Need-element-copy-out-word Inv-loop μ-loop
+element-copy-out-word c = omega arith
 
-wide-requires : tie.Need-wide-requires Inv-loop μ-loop
-wide-requires c κs = tt
+word-requires : tie.Need-word-requires Inv-loop μ-loop
+word-requires c κs = tt
 
 returns : tie.Need-returns Inv-loop μ-loop
 unfolding jobOf
@@ -46,7 +46,7 @@ returns c =
     let s = c₃ .args .job .now in
     let t = c₃ .args .table .now in
     let a = answered-read s t (l .w) (c₂ .claim-count .ensures .value) (c .before .before .before .answered-at .ensures .value) in
-    let n = c .before .wide .ensures .value ∙ c₃ .pre .1 .1 (l .w) (omega arith) in
+    let n = c .before .word .ensures .value ∙ c₃ .pre .1 .1 .counts (l .w) (omega arith) in
     rest-fails s t (l .inv) (omega arith) a n (omega arith)
 
 add-w : tie.Need-add-w Inv-loop μ-loop
@@ -65,7 +65,7 @@ loop-again c =
     let s = c₃ .args .job .now in
     let t = c₃ .args .table .now in
     let a = answered-read s t (l .w) (c₂ .claim-count .ensures .value) (c .before .before .before .answered-at .ensures .value) in
-    let n = c .before .wide .ensures .value ∙ c₃ .pre .1 .1 (l .w) (omega arith) in
+    let n = c .before .word .ensures .value ∙ c₃ .pre .1 .1 .counts (l .w) (omega arith) in
     rest-next s t (l .inv) (omega arith) a n (omega arith)
 
 returns-2 : tie.Need-returns-2 Inv-loop μ-loop
@@ -81,9 +81,9 @@ all-answered-spec =
     worker-count-requires
     loop-holds
     answered-at-requires
-    mul-wide
-    element-copy-out-wide
-    wide-requires
+    mul-word
+    element-copy-out-word
+    word-requires
     returns
     add-w
     loop-less
