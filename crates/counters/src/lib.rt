@@ -5,9 +5,7 @@ pub mod doubt;
 pub mod occurrences;
 pub mod recover;
 
-// The bytes of verdicts (semantics/specs/Model: byteOf), and that of a claim whose verdict is not known.
-pub const UNKNOWN: u8 = 0;
-
+// The bytes of verdicts (semantics/specs/Model: byteOf).
 pub const TRUE: u8 = 1;
 
 pub const FALSE: u8 = 2;

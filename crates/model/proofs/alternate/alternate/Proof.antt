@@ -71,9 +71,6 @@ same-length c =
     let c₁ = c .before .before .before .before .before .before .before .before .before in
     let c₂ = c₁ .before .before .before .before .before .before .before .before .before .before .before .before in
     let l = c₂ .before .before .before .before .loop in
-    let k = c₂ .before .before .before .before .before .before .before .before .before .before .before .first-k in
-    let u = c₂ .before .before .before .before .before .before .before .before .before .before .before .before .before .before .before .before .before .before .before .before .before .before .before .first-u in
-    let shrink = c₁ .shrink in
     let rise = c₂ .rise in
     rise .kept .1 .1 .1 .0 ∙ l .inv .1
 
@@ -82,10 +79,8 @@ same-length-2 c =
     let c₁ = c .before .before .before .before .before .before .before .before .before in
     let c₂ = c₁ .before .before .before .before .before .before .before .before .before .before .before .before in
     let l = c₂ .before .before .before .before .loop in
-    let k = c₂ .before .before .before .before .before .before .before .before .before .before .before .first-k in
     let u = c₂ .before .before .before .before .before .before .before .before .before .before .before .before .before .before .before .before .before .before .before .before .before .before .before .first-u in
     let shrink = c₁ .shrink in
-    let rise = c₂ .rise in
     shrink .kept .1 .1 .1 .1 .1 .0 ∙ l .inv .2 ∙ u .kept .1 .1 .1 .1 .0
 
 same-length-3 : tie.Need-same-length-3 Inv-loop μ-loop
@@ -94,8 +89,6 @@ same-length-3 c =
     let c₂ = c₁ .before .before .before .before .before .before .before .before .before .before .before .before in
     let l = c₂ .before .before .before .before .loop in
     let k = c₂ .before .before .before .before .before .before .before .before .before .before .before .first-k in
-    let u = c₂ .before .before .before .before .before .before .before .before .before .before .before .before .before .before .before .before .before .before .before .before .before .before .before .first-u in
-    let shrink = c₁ .shrink in
     let rise = c₂ .rise in
     rise .kept .1 .1 .1 .1 .0 ∙ l .inv .3 ∙ k .kept .1 .1 .1 .0
 
@@ -104,10 +97,8 @@ same-length-4 c =
     let c₁ = c .before .before .before .before .before .before .before .before .before in
     let c₂ = c₁ .before .before .before .before .before .before .before .before .before .before .before .before in
     let l = c₂ .before .before .before .before .loop in
-    let k = c₂ .before .before .before .before .before .before .before .before .before .before .before .first-k in
     let u = c₂ .before .before .before .before .before .before .before .before .before .before .before .before .before .before .before .before .before .before .before .before .before .before .before .first-u in
     let shrink = c₁ .shrink in
-    let rise = c₂ .rise in
     shrink .kept .1 .1 .1 .1 .1 .1 .0 ∙ l .inv .4 ∙ u .kept .1 .1 .1 .1 .1 .0
 
 same-length-5 : tie.Need-same-length-5 Inv-loop μ-loop
@@ -127,9 +118,7 @@ same-length-6 c =
     let c₂ = c₁ .before .before .before .before .before .before .before .before .before .before .before .before in
     let l = c₂ .before .before .before .before .loop in
     let k = c₂ .before .before .before .before .before .before .before .before .before .before .before .first-k in
-    let u = c₂ .before .before .before .before .before .before .before .before .before .before .before .before .before .before .before .before .before .before .before .before .before .before .before .first-u in
     let shrink = c₁ .shrink in
-    let rise = c₂ .rise in
     shrink .kept .1 .1 .1 .1 .1 .1 .1 .1 .0 ∙ l .inv .6 ∙ k .kept .1 .1 .1 .1 .1 .1 .0
 
 returns : tie.Need-returns Inv-loop μ-loop
