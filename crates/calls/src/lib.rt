@@ -48,19 +48,13 @@ pub fn start(job: &[u8], table: &mut [u32]) -> Check
     ensures { λ r. ⌜ (Check.Accepted ≡ checkJob (now (job .entry)) → Promise (now (job .entry))) ⌝ }
 {
     let check = job::checks::check_job(job);
-    if let Check::Refused {
-        number: _,
-        place: _,
-    } = check {
+    let Check::Accepted = check else {
         return check;
-    }
+    };
     let room = table::checks::check_room(job, table);
-    if let Check::Refused {
-        number: _,
-        place: _,
-    } = room {
+    let Check::Accepted = room else {
         return room;
-    }
+    };
     table::start::write_start(job, table);
     Check::Accepted
 }
@@ -105,15 +99,12 @@ fn run_in_range(job: &[u8], index: &ClaimIndex, table: &mut [u32], schedule: &[u
     ensures { λ r. ⌜ Ran (checkSchedule (now (job .entry)) (now (schedule .entry))) (now (job .entry)) (now (table .entry)) (now (schedule .entry)) r (now (table .exit)) ⌝ }
 {
     let check = schedule::check_schedule(job, schedule);
-    if let Check::Refused {
-        number: _,
-        place: _,
-    } = check {
+    let Check::Accepted = check else {
         return RunAnswer {
             check,
             tally: tally::no_turns(),
         };
-    }
+    };
     RunAnswer {
         check: Check::Accepted,
         tally: schedule::run_turns(job, index, table, schedule),
@@ -126,15 +117,12 @@ fn run_accepted(job: &[u8], index: &ClaimIndex, table: &mut [u32], schedule: &[u
     ensures { λ r. ⌜ Ran (checkTable (jobOf (now (job .entry))) (now (table .entry)) ⨾ checkSchedule (now (job .entry)) (now (schedule .entry))) (now (job .entry)) (now (table .entry)) (now (schedule .entry)) r (now (table .exit)) ⌝ }
 {
     let check = table::checks::check_table(job, index, table);
-    if let Check::Refused {
-        number: _,
-        place: _,
-    } = check {
+    let Check::Accepted = check else {
         return RunAnswer {
             check,
             tally: tally::no_turns(),
         };
-    }
+    };
     run_in_range(job, index, table, schedule)
 }
 
@@ -145,15 +133,12 @@ pub fn run(job: &[u8], table: &mut [u32], schedule: &[u8]) -> RunAnswer
     ensures { λ r. ⌜ Worked (now (job .entry)) (now (table .entry)) (now (schedule .entry)) r (now (table .exit)) ⌝ }
 {
     let check = job::checks::check_job(job);
-    if let Check::Refused {
-        number: _,
-        place: _,
-    } = check {
+    let Check::Accepted = check else {
         return RunAnswer {
             check,
             tally: tally::no_turns(),
         };
-    }
+    };
     let index = claims::index_claims(job);
     run_accepted(job, &index, table, schedule)
 }

@@ -14,7 +14,6 @@ ghost use Rattle.counters.specs.Queues.{Joined, JoinedIf, Joins, Fits};
 ghost use Rattle.counters.specs.Counters.{Aim, Growing, Ready, Paid, Raised, Idle, givenTo, Given, Begun};
 use crate::FALSE;
 use crate::TRUE;
-use crate::occurrences;
 use base::wide;
 use job::format;
 

@@ -9,7 +9,6 @@ ghost use Rattle.job.specs.Accepted.{WellFormed};
 ghost use Rattle.job.specs.Format.{claims, rules, literals, headAt};
 ghost use Rattle.counters.specs.Positions.{owners, Placed};
 ghost use Rattle.counters.specs.Doubts.{Stand, stays, Left, Owed, Falling, Sunk, Negations};
-use crate::occurrences;
 use base::wide;
 use job::format;
 

@@ -11,7 +11,6 @@ ghost use Rattle.counters.specs.Queues.{seen, Queue};
 ghost use Rattle.counters.specs.Counters.{Idle};
 ghost use Rattle.counters.specs.Doubts.{Doubted, Lost, Recovered};
 use crate::derive;
-use crate::occurrences;
 use base::wide;
 use job::format;
 

@@ -49,11 +49,8 @@ fn check_parts(job: &[u8], schedule: &[u8]) -> Check
     ensures { λ r. ⌜ r ≡ checkJob (now (job .entry)) ⨾ checkSchedule (now (job .entry)) (now (schedule .entry)) ⌝ }
 {
     let check = job::checks::check_job(job);
-    if let Check::Refused {
-        number: _,
-        place: _,
-    } = check {
+    let Check::Accepted = check else {
         return check;
-    }
+    };
     calls::schedule::check_schedule(job, schedule)
 }

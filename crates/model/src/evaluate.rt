@@ -26,12 +26,9 @@ pub fn evaluate(job: &[u8], out: &mut [u8]) -> Check
     ensures { λ r. ⌜ Evaluated (now (job .entry)) (now (out .entry)) r (now (out .exit)) ⌝ }
 {
     let check = checks::check_job(job);
-    if let Check::Refused {
-        number: _,
-        place: _,
-    } = check {
+    let Check::Accepted = check else {
         return check;
-    }
+    };
     let n = format::claim_count(job);
     if out.len() < n {
         return Check::Refused {

@@ -21,6 +21,9 @@ check-job-requires c κs = search needs
 enum-told : tie.Need-enum-told
 enum-told c = search needs
 
+enum-told-2 : tie.Need-enum-told-2
+enum-told-2 c = search needs
+
 returns : tie.Need-returns
 unfolding startCheck startTable
 returns c =
@@ -28,18 +31,18 @@ returns c =
     let t = c .before .before .before .before .before .args .table .now in
     let F : Check → List ℕ = λ x. startTable x s t in
     let G : Check → Check = λ x. x in
-    let e = c .enum-told .given .1 in
+    let e = c .enum-told2 .given .1 in
     let q = c .before .before .check-job .ensures .0 in
     (stops-at G (checkJob s) (checkRoom (jobOf s) t) e q e, (stops-at F (checkJob s) (checkRoom (jobOf s) t) e q refl, promise s))
 
-enum-told-2 : tie.Need-enum-told-2
-enum-told-2 c = search needs
-
 check-room-requires : tie.Need-check-room-requires
-check-room-requires c κs = well-formed _ (sym (c .before .enum-told2 .given .1) ∙ c .before .before .before .check-job .ensures .0)
+check-room-requires c κs = well-formed _ (sym (c .before .enum-told .given .1) ∙ c .before .before .before .check-job .ensures .0)
 
 enum-told-3 : tie.Need-enum-told-3
 enum-told-3 c = search needs
+
+enum-told-4 : tie.Need-enum-told-4
+enum-told-4 c = search needs
 
 same-length : tie.Need-same-length
 same-length c = search needs
@@ -54,14 +57,11 @@ returns-2 c =
     let t = c₃ .args .table .now in
     let F : Check → List ℕ = λ x. startTable x s t in
     let G : Check → Check = λ x. x in
-    let a = c₁ .enum-told2 .given .1 in
+    let a = c₁ .enum-told .given .1 in
     let b = c₂ .check-job .ensures .0 in
-    let e = c .enum-told3 .given .1 in
+    let e = c .enum-told4 .given .1 in
     let q = c .before .before .check-room .ensures in
     (goes-on G (checkJob s) (checkRoom (jobOf s) t) a b q, (goes-on F (checkJob s) (checkRoom (jobOf s) t) a b (ap F (sym e ∙ q)), promise s))
-
-enum-told-4 : tie.Need-enum-told-4
-enum-told-4 c = search needs
 
 write-start-requires : tie.Need-write-start-requires
 write-start-requires c κs =
@@ -69,7 +69,7 @@ write-start-requires c κs =
     let c₂ = c₁ .before .before in
     let c₃ = c₂ .before .before .before in
     let s = c₃ .args .job .now in
-    (well-formed _ (sym (c₁ .enum-told2 .given .1) ∙ c₂ .check-job .ensures .0), enough-room (jobOf s) _ (sym (c .before .enum-told4 .given .1) ∙ c .before .before .before .check-room .ensures))
+    (well-formed _ (sym (c₁ .enum-told .given .1) ∙ c₂ .check-job .ensures .0), enough-room (jobOf s) _ (sym (c .before .enum-told3 .given .1) ∙ c .before .before .before .check-room .ensures))
 
 same-length-2 : tie.Need-same-length-2
 same-length-2 c = search needs
@@ -86,9 +86,9 @@ returns-3 c =
     let t = c₅ .args .table .now in
     let F : Check → List ℕ = λ x. startTable x s t in
     let G : Check → Check = λ x. x in
-    let a = c₃ .enum-told2 .given .1 in
+    let a = c₃ .enum-told .given .1 in
     let b = c₄ .check-job .ensures .0 in
-    let q = sym (c₁ .enum-told4 .given .1) ∙ c₂ .check-room .ensures in
+    let q = sym (c₁ .enum-told3 .given .1) ∙ c₂ .check-room .ensures in
     (goes-on G (checkJob s) (checkRoom (jobOf s) t) a b q, (goes-on F (checkJob s) (checkRoom (jobOf s) t) a b (c .before .before .write-start .ensures ∙ ap F q), promise s))
 
 pub start-spec : {M : Type 1} → statement M
@@ -97,13 +97,13 @@ start-spec =
     (tie.spec
     check-job-requires
     enum-told
-    returns
     enum-told-2
+    returns
     check-room-requires
     enum-told-3
+    enum-told-4
     same-length
     returns-2
-    enum-told-4
     write-start-requires
     same-length-2
     returns-3)

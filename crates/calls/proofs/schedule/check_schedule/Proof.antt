@@ -25,11 +25,11 @@ worker-count-requires c κs = omega arith
 loop-holds : tie.Need-loop-holds Inv-loop μ-loop
 loop-holds c = (omega arith, below-none _)
 
-shared-slice-read-wide : tie.Need-shared-slice-read-wide Inv-loop μ-loop
-shared-slice-read-wide c = omega arith
+shared-slice-read-byte : tie.Need-shared-slice-read-byte Inv-loop μ-loop
+shared-slice-read-byte c = omega arith
 
-wide-requires : tie.Need-wide-requires Inv-loop μ-loop
-wide-requires c κs = omega arith
+byte-requires : tie.Need-byte-requires Inv-loop μ-loop
+byte-requires c κs = omega arith
 
 returns : tie.Need-returns Inv-loop μ-loop
 unfolding checkSchedule
@@ -68,8 +68,8 @@ check-schedule-spec =
     μ-loop
     worker-count-requires
     loop-holds
-    shared-slice-read-wide
-    wide-requires
+    shared-slice-read-byte
+    byte-requires
     returns
     add-i
     loop-less

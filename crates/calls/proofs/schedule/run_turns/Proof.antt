@@ -18,17 +18,17 @@ no-turns-requires c κs = tt
 loop-holds : tie.Need-loop-holds Inv-loop μ-loop
 loop-holds c = partly-none _ _ _ (c .before .before .before .before .pre .0 .table) (c .no-turns .ensures)
 
-shared-slice-read-wide : tie.Need-shared-slice-read-wide Inv-loop μ-loop
-shared-slice-read-wide c = omega arith
+shared-slice-read-byte : tie.Need-shared-slice-read-byte Inv-loop μ-loop
+shared-slice-read-byte c = omega arith
 
-wide-requires : tie.Need-wide-requires Inv-loop μ-loop
-wide-requires c κs = tt
+byte-requires : tie.Need-byte-requires Inv-loop μ-loop
+byte-requires c κs = tt
 
 take-turn-requires : tie.Need-take-turn-requires Inv-loop μ-loop
 take-turn-requires c κs =
     let p = c .before .before .before .before .before .before .before .before .before .pre in
     let l = c .before .before .before .before .loop in
-    (record { job = p .0 .job; indexed = p .0 .indexed; table = l .inv .range }, omega (arith, c .wide .ensures .value, p .1 (l .i) (omega arith)))
+    (record { job = p .0 .job; indexed = p .0 .indexed; table = l .inv .range }, omega (arith, c .byte .ensures .value, p .1 (l .i) (omega arith)))
 
 counted-requires : tie.Need-counted-requires Inv-loop μ-loop
 counted-requires c κs = λ k. omega (arith, c .before .before .before .before .before .before .before .loop .inv .small k)
@@ -46,7 +46,7 @@ loop-again c =
     let c₃ = c₂ .before .before .before .before .before in
     let p = c₃ .pre in
     let l = c₂ .loop in
-    let named = c₁ .wide .ensures .value in
+    let named = c₁ .byte .ensures .value in
     let h = p .1 (l .i) (omega arith) in
     partly-more _ _ _ (p .0 .job) (l .inv) (omega arith) named (omega arith) (c .before .before .before .take-turn .ensures) (c .counted .ensures)
 
@@ -64,8 +64,8 @@ run-turns-spec =
     μ-loop
     no-turns-requires
     loop-holds
-    shared-slice-read-wide
-    wide-requires
+    shared-slice-read-byte
+    byte-requires
     take-turn-requires
     counted-requires
     add-i
