@@ -24,9 +24,9 @@ use Rattle.job.specs.declared.Check.the-variants.{Accepted, Refused}
 use Rattle.job.proofs.Accepted.{well-formed}
 use Rattle.job.proofs.Rows.{both, row-no}
 use Rattle.job.proofs.Written.{questions-count}
-use Rattle.table.specs.Layout.{used}
+use Rattle.table.specs.Layout.{mostWords, used}
 use Rattle.calls.proofs.Answering.{schedule-low}
-use Rattle.listing.specs.Listing.{jobEnd, jobPart, schedulePart, mostInput, mostWords, listingCheck, listCheck, mostText, refusalLine, listed, listingIf, listing, roomLength, roomBytes}
+use Rattle.listing.specs.Listing.{jobEnd, jobPart, schedulePart, mostInput, listingCheck, listCheck, mostText, refusalLine, listed, listingIf, listing, roomLength, roomBytes}
 
 pub record AcceptedInput (i : List ℕ) : Type 0 where
   pub short : length i ≤ mostInput

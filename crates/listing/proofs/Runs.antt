@@ -27,7 +27,7 @@ use Rattle.job.specs.Format.{claims, rules, literals, workers, questions, quest
 use Rattle.job.specs.declared.Question.{Question}
 use Rattle.table.specs.declared.Reading.{Reading}
 use Rattle.table.specs.Reading.{readingOf}
-use Rattle.table.specs.Layout.{used, mark, answerWord}
+use Rattle.table.specs.Layout.{mark, answerAt, answer, markOfValue}
 use Rattle.calls.specs.Calls.{counted, tally}
 use Rattle.listing.specs.Text.{blank, lineEnd, refusedWord, tallyWord, nameOf}
 use Rattle.listing.specs.Listing.{refusalLine, claimLine, countText, tallyLine, answerLine, questionLine, questionLines, lineOf}
@@ -198,12 +198,12 @@ answer-room w c v l m =
 pub put-question-line :
     (s t : List ℕ) (k : ℕ) {m l a w x : ℕ} {g : Question} {v : Reading} {buf out : List ℕ} {at r : ℕ}
     → m ≡ rules s → l ≡ literals s → g ≡ questionAt s m l k
-    → a ≡ claims s → w ≡ workers s → x ≡ getD t (8 + 3 * a + 2 * w + k) 0 → v ≡ readingOf (255 + x)
+    → a ≡ claims s → w ≡ workers s → x ≡ getD t (answerAt a w k) 0 → {n : ℕ} → n ≡ markOfValue x → v ≡ readingOf n
     → Put buf at (answerLine (g .worker) (g .claim) v) out r → Put buf at (lineOf s t k) out r
 unfolding jobOf
-put-question-line s t k {g = g} {v = v} em el eg ea ew ex ev p =
-    let y : v ≡ readingOf (255 + getD t (8 + 3 * claims s + 2 * workers s + k) 0) =
-    ev ∙ ap (λ (n : ℕ). readingOf (255 + n)) (ex ∙ ap₂ (λ (a′ w′ : ℕ). getD t (8 + 3 * a′ + 2 * w′ + k) 0) ea ew) in
+put-question-line s t k {g = g} {v = v} em el eg ea ew ex en ev p =
+    let y : v ≡ readingOf (markOfValue (getD t (answerAt (claims s) (workers s) k) 0)) =
+    ev ∙ ap readingOf (en ∙ ap (λ (n : ℕ). markOfValue n) (ex ∙ ap₂ (λ (a′ w′ : ℕ). getD t (answerAt a′ w′ k) 0) ea ew)) in
     let z : g ≡ questionAt s (rules s) (literals s) k = eg ∙ ap₂ (λ (m′ l′ : ℕ). questionAt s m′ l′ k) em el in
     rw (z, y) at p
 
@@ -241,7 +241,7 @@ module _ (s t : List ℕ) where
   line-room : WellFormed s → (k : ℕ) → k < questions s → length (lineOf s t k) ≤ 52
   line-room w k h =
       answer-room (half s (questionByte (rules s) (literals s) k)) (half s (questionByte (rules s) (literals s) k + 2))
-      (readingOf (255 + getD t (answerWord (jobOf s) k) 0))
+      (readingOf (markOfValue (answer (jobOf s) t k)))
       (omega (arith, w .asker k h, w .sized .workersMost)) (omega (arith, w .asked k h, w .sized .claimsMost))
 
   pub first-more :

@@ -30,7 +30,7 @@ use Rattle.semantics.specs.Model.{Verdict, True, False, Undefined, programOf, v
 use Rattle.semantics.proofs.Missing.{missing-of}
 use Rattle.semantics.proofs.Textbook.{textbook-of}
 use Rattle.table.specs.Questions.{positionsOf, askedBy, claimAsked, questionClaim}
-use Rattle.table.specs.Layout.{used, mark, markOf, answered, answerWord}
+use Rattle.table.specs.Layout.{used, mark, markOf, answered, answerWord, answer, markOfValue, trueMark}
 use Rattle.table.specs.Start.{startWords}
 use Rattle.table.specs.Reading.{readingOf}
 use Rattle.table.specs.declared.Reading.the-variants.{Fresh, Open}
@@ -117,8 +117,8 @@ lines-shown j t (q ∷ qs) k f =
     let z : k + 0 ≡ k = omega arith in
     let word : getD t (answerWord j k) 0 ≡ byteOf (verdict (programOf j) (q .claim)) =
     ap (λ (x : ℕ). getD t (answerWord j x) 0) (sym z) ∙ f 0 (omega arith) in
-    let name : nameOf (readingOf (255 + getD t (answerWord j k) 0)) ≡ wordOf (verdict (programOf j) (q .claim)) =
-    ap (λ (x : ℕ). nameOf (readingOf (255 + x))) word ∙ named (verdict (programOf j) (q .claim)) in
+    let name : nameOf (readingOf (markOfValue (answer j t k))) ≡ wordOf (verdict (programOf j) (q .claim)) =
+    ap (λ (x : ℕ). nameOf (readingOf (markOfValue x))) word ∙ named (verdict (programOf j) (q .claim)) in
     let here : questionLine j t k q ≡ verdictLine j q =
     ap (λ (x : List ℕ). decimal (q .worker) ++ (blank ∷ []) ++ decimal (q .claim) ++ (blank ∷ []) ++ x ++ (lineEnd ∷ [])) name in
     ap₂ _++_ here
@@ -184,14 +184,14 @@ module _ (s : List ℕ) (e : Accepted ≡ checkJob s) (t : List ℕ) (room : P.F
         subst (Complete u) its-claim
         (mark-complete (ok s e) made (questionClaim (jobOf s) w (place .at)) (ok s e .question w (place .at) (place .real)) (made .verdicts .met w (place .at) small real))
 
-  pub claim-shown : (c : ℕ) → c < jobOf s .claims → 256 ≤ mark u c → mark u c ≡ markOf (verdict (programOf (jobOf s)) c)
+  pub claim-shown : (c : ℕ) → c < jobOf s .claims → trueMark ≤ mark u c → mark u c ≡ markOf (verdict (programOf (jobOf s)) c)
   claim-shown = made .verdicts .marks
 
   -- all that isn't fresh is complete
-  opened-complete : (c : ℕ) → c < jobOf s .claims → 0 < mark u c → 256 ≤ mark u c
+  opened-complete : (c : ℕ) → c < jobOf s .claims → 0 < mark u c → trueMark ≤ mark u c
   opened-complete = none-open (jobOf s) (ok s e) start (start-started (jobOf s) t room) all all-low all-answered
 
-  pub shown-complete : (c : ℕ) → c < jobOf s .claims → Complete u c → 256 ≤ mark u c
+  pub shown-complete : (c : ℕ) → c < jobOf s .claims → Complete u c → trueMark ≤ mark u c
   shown-complete = complete-mark (ok s e) made
 
   pub other-fresh : (c : ℕ) → c < jobOf s .claims → (Complete u c → ⊥) → mark u c ≡ 0

@@ -1,11 +1,10 @@
 -- The listing (01, 'The listing program'): from the input bytes to the exact bytes of the text.
 --   jobEnd i, jobPart i, schedulePart i   where the job ends in the input i, and its two parts
---   mostInput, mostText   the longest input, and room for every text; mostWords   words for the table of every job
+--   mostInput, mostText   the longest input, and room for every text
 --   listingCheck i     the checks of an input, in the table's order
 --   listCheck i n      the checks of a call that is lent n bytes: those of the input, then row 16
 --   refusalLine        `refused`, number, place
 --   claimLine, questionLine, tallyLine   the lines of the text
---   valueMark v        the mark of a claim whose value is v
 --   answerLine w c r   the line of a question of worker w on claim c, whose answer reads r
 --   questionLines      the lines of questions, from question k on
 --   lineOf s t k       the line of question k, from the job's bytes s
@@ -34,7 +33,7 @@ use Rattle.job.specs.declared.Check.{Check}
 use Rattle.job.specs.declared.Check.the-variants.{Accepted, Refused}
 use Rattle.job.specs.declared.Question.{Question}
 use Rattle.table.specs.declared.Reading.{Reading}
-use Rattle.table.specs.Layout.{used, mark, answerWord}
+use Rattle.table.specs.Layout.{used, mark, answer, markOfValue}
 use Rattle.table.specs.Start.{startWords}
 use Rattle.table.specs.Reading.{readingOf}
 use Rattle.turn.specs.Turn.{runTable, runKinds}
@@ -71,12 +70,8 @@ claimLine t c = decimal c ++ (blank ∷ []) ++ nameOf (readingOf (mark t c)) ++ 
 abbrev pub answerLine : ℕ → ℕ → Reading → List ℕ
 answerLine w c r = decimal w ++ (blank ∷ []) ++ decimal c ++ (blank ∷ []) ++ nameOf r ++ (lineEnd ∷ [])
 
--- marks 256 to 258 show values 1 to 3
-abbrev pub valueMark : ℕ → ℕ
-valueMark v = 255 + v
-
 abbrev pub questionLine : Job → List ℕ → ℕ → Question → List ℕ
-questionLine j t k q = answerLine (q .worker) (q .claim) (readingOf (valueMark (getD t (answerWord j k) 0)))
+questionLine j t k q = answerLine (q .worker) (q .claim) (readingOf (markOfValue (answer j t k)))
 
 unfoldable pub questionLines : Job → List ℕ → ℕ → List Question → List ℕ
 questionLines j t k [] = []
@@ -124,10 +119,6 @@ listingIf (Refused number place) i = refusalLine number place
 
 unfoldable pub listing : List ℕ → List ℕ
 listing i = listingIf (listingCheck i) i
-
--- 8 + 3 · 4,096 + 2 · 32 + 1,024
-abbrev pub mostWords : ℕ
-mostWords = 13384
 
 -- room for the text of every input
 abbrev pub mostText : ℕ

@@ -18,9 +18,6 @@ use table::words;
 use writing::number;
 use writing::put;
 
-// The mark of a claim lies so much above the value that it shows.
-const MARK_ABOVE_VALUE: usize = 255;
-
 pub fn put_refusal(buf: &mut [u8], at: usize, number: u32, place: usize) -> usize
     requires { ⌜ at + 60 ≤ length (now buf) ⌝ }
     ensures { λ r. ⌜ Put (now (buf .entry)) at (refusalLine number place) (now (buf .exit)) r ⌝ }
@@ -110,11 +107,10 @@ fn put_question(buf: &mut [u8], at: usize, job: &[u8], table: &[u32], k: usize) 
     ensures { λ r. ⌜ Put (now (buf .entry)) at (lineOf (now (job .entry)) (now (table .entry)) k) (now (buf .exit)) r ⌝ }
 {
     let q = format::question_at(job, format::rule_count(job), format::literal_count(job), k);
-    let answers_at = words::CLAIMS_AT
-        + 3 * format::claim_count(job)
-        + 2 * format::worker_count(job);
-    let value = words::word_at(table, answers_at + k);
-    let reading = words::reading_of(MARK_ABOVE_VALUE + value);
+    let claims = format::claim_count(job);
+    let workers = format::worker_count(job);
+    let value = words::answer_at(table, claims, workers, k);
+    let reading = words::reading_of(words::mark_of_value(value));
     put_answer(buf, at, q.worker, q.claim, reading)
 }
 

@@ -6,25 +6,18 @@ ghost use Rattle.writing.specs.Written.{Put};
 ghost use Rattle.job.specs.Accepted.{WellFormed};
 ghost use Rattle.job.specs.Rows.{_⨾_};
 ghost use Rattle.job.specs.Format.{workers as workersOf, jobOf};
-ghost use Rattle.table.specs.Layout.{used};
-ghost use Rattle.listing.specs.Listing.{mostInput, mostText, mostWords, listed, listingCheck, listingIf, listCheck, roomLength, roomBytes};
+ghost use Rattle.table.specs.Layout.{mostWords, used};
+ghost use Rattle.listing.specs.Listing.{mostInput, mostText, listed, listingCheck, listingIf, listCheck, roomLength, roomBytes};
 ghost use Rattle.listing.specs.Told.{Told};
 use crate::Listed;
 use crate::input;
 use crate::lines;
 use crate::play;
 use job::Check;
-use job::checks;
 use table::words;
 
 // Enough for the text of every input.
 pub const MOST_TEXT: usize = 196608;
-
-// Words for the table of every job.
-const MOST_WORDS: usize = words::CLAIMS_AT
-    + 3 * checks::MOST_CLAIMS
-    + 2 * checks::MOST_WORKERS
-    + checks::MOST_QUESTIONS;
 
 // The text of an accepted job, by way of a table of zeros.
 fn list_on(job: &[u8], named: &[u8], table: &mut [u32], out: &mut [u8]) -> usize
@@ -39,10 +32,11 @@ fn list_on(job: &[u8], named: &[u8], table: &mut [u32], out: &mut [u8]) -> usize
     lines::put_text(out, job, table, &counts)
 }
 
-fn blank_words() -> [u32; MOST_WORDS]
+// Zeros for the table of every job.
+fn blank_words() -> [u32; words::MOST_WORDS]
     ensures { λ r. ⌜ r ≡ replicate mostWords 0 ⌝ }
 {
-    [0u32; MOST_WORDS]
+    [0u32; words::MOST_WORDS]
 }
 
 // The text of an accepted job and schedule.

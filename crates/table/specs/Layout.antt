@@ -7,6 +7,7 @@
 --   answerAt a t k       where the word of question k stands, in such a table
 --   awaitedWord j w, ..  the same places in a table of job j
 --   Place i              i is small enough to be a word's place in a slice
+--   mostWords            words enough for the table of every job
 --   used j               words used; header j   the first seven words
 --   mark t c, ..         what each word holds; opened t   claims opened so far
 --   trueMark, ..         the marks of complete claims: valueBase and a value, which is 1 to mostValue
@@ -20,7 +21,7 @@ use mathlib.Core.List.{List, [], _∷_}
 use lib.Dec.{leb, eqb}
 use lib.ListN.{length, getD}
 use Rattle.base.specs.Span.{span}
-use Rattle.job.specs.Job.{Job}
+use Rattle.job.specs.Job.{Job, mostClaims, mostWorkers, mostQuestions}
 use Rattle.semantics.specs.Model.{Verdict, byteOf}
 
 -- "A header of eight words: words used; A; T; Q; offsets 8, 8 + 3A, 8 + 3A + 2T; claims opened so far."
@@ -75,6 +76,10 @@ answerWord j k = answerAt (j .claims) (j .workers) k
 -- "words used 8 + 3A + 2T + Q"
 abbrev pub used : Job → ℕ
 used j = answerWord j (length (j .questions))
+
+-- words enough for the table of every job
+abbrev pub mostWords : ℕ
+mostWords = answerAt mostClaims mostWorkers mostQuestions
 
 unfoldable pub header : Job → List ℕ
 header j =

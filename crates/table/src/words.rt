@@ -12,6 +12,7 @@ ghost use Rattle.table.specs.Layout.{opened, mark as markIn, cursor, num
 ghost use Rattle.table.specs.Reading.{readingOf};
 use crate::Reading;
 use base::wide;
+use job::checks;
 use job::format;
 
 // The header's words that never change; the one after them counts the claims opened so far.
@@ -21,6 +22,12 @@ pub const OPENED_AT: usize = 7;
 
 // Where the words of claims start, a mark, a cursor and an opening number each; those of workers follow, then those of questions.
 pub const CLAIMS_AT: usize = 8;
+
+// Words enough for the table of every job.
+pub const MOST_WORDS: usize = CLAIMS_AT
+    + 3 * checks::MOST_CLAIMS
+    + 2 * checks::MOST_WORKERS
+    + checks::MOST_QUESTIONS;
 
 // The marks of the values: each is the value, 1 to 3, and a base.
 pub const TRUE_MARK: usize = 256;
@@ -208,7 +215,7 @@ pub fn value_of(mark: usize) -> usize
 
 // The mark of a value.
 pub fn mark_of_value(value: usize) -> usize
-    requires { ⌜ value < 256 ⌝ }
+    requires { ⌜ value < 4294967296 ⌝ }
     ensures { λ r. ⌜ r ≡ markOfValue value ⌝ }
 {
     VALUE_BASE + value

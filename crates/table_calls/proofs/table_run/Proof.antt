@@ -30,7 +30,7 @@ returns c =
     let a = c₂ .args in
     let e = c₁ .run .ensures .0 in (
       c .of-check .ensures ∙ ap (λ (r : RunAnswer). ofCheck (r .check)) e,
-      (c₁ .run .ensures .1, c .before .before .before .copy-counts .ensures ∙ ap (λ (r : RunAnswer). copied (r .tally) (a .tally .now)) e),
+      (c₁ .run .ensures .1 .0, c .before .before .before .copy-counts .ensures ∙ ap (λ (r : RunAnswer). copied (r .tally) (a .tally .now)) e),
     )
 
 pub table-run-spec : {M : Type 1} → statement M

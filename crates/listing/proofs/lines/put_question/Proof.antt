@@ -18,31 +18,18 @@ question-at-requires c κs = search needs
 claim-count-requires : tie.Need-claim-count-requires
 claim-count-requires c κs = search needs
 
-mul-answers-at : tie.Need-mul-answers-at
-mul-answers-at c = search needs
-
-add-answers-at : tie.Need-add-answers-at
-add-answers-at c = search needs
-
 worker-count-requires : tie.Need-worker-count-requires
 worker-count-requires c κs = search needs
 
-mul-answers-at-2 : tie.Need-mul-answers-at-2
-mul-answers-at-2 c = search needs
-
-add-answers-at-2 : tie.Need-add-answers-at-2
-add-answers-at-2 c = search needs
-
-add-word-at : tie.Need-add-word-at
-add-word-at c = search needs
-
-word-at-requires : tie.Need-word-at-requires
-word-at-requires c κs =
+answer-at-requires : tie.Need-answer-at-requires
+answer-at-requires c κs =
     let c₁ = c .before .before .before .before .before .before .before .before in
-    omega (arith, words-room (c₁ .args .job .now) (c₁ .args .table .now) (omega arith))
+    let a = c₁ .args in
+    let p = c₁ .pre in
+    omega (arith, words-room (a .job .now) (a .table .now) (p .1 .0), p .1 .1 .0, c .before .claim-count .ensures .value, c .worker-count .ensures .value)
 
-add-reading-of : tie.Need-add-reading-of
-add-reading-of c = search needs
+mark-of-value-requires : tie.Need-mark-of-value-requires
+mark-of-value-requires c κs = search needs
 
 reading-of-requires : tie.Need-reading-of-requires
 reading-of-requires c κs = search needs
@@ -56,14 +43,11 @@ same-length c = search needs
 returns : tie.Need-returns
 returns c =
     let c₁ = c .before .before .before .before in
-    let c₂ = c₁ .before in
-    let c₃ = c₂ .before in
-    let c₄ = c₃ .before in
-    let c₅ = c₄ .before in
-    let c₆ = c₅ .before in
-    let c₇ = c₆ .before in
-    let c₈ = c₇ .before .before .before .before in
-    put-question-line (c₈ .args .job .now) (c₈ .args .table .now) (c₈ .args .k) (c₇ .rule-count .ensures .value) (c₆ .literal-count .ensures .value) (c₅ .question-at .ensures) (c₄ .claim-count .ensures .value) (c₃ .worker-count .ensures .value) (c₂ .word-at .ensures .value) (c₁ .reading-of .ensures) (c .before .before .put-answer .ensures)
+    let c₂ = c₁ .before .before .before in
+    let c₃ = c₂ .before .before .before in
+    let c₄ = c₃ .before .before .before .before .before in
+    let a = c₄ .args in
+    put-question-line (a .job .now) (a .table .now) (a .k) (c₃ .before .rule-count .ensures .value) (c₃ .literal-count .ensures .value) (c₂ .before .before .question-at .ensures) (c₂ .before .claim-count .ensures .value) (c₂ .worker-count .ensures .value) (c₁ .before .before .answer-at .ensures .value) (c₁ .before .mark-of-value .ensures) (c₁ .reading-of .ensures) (c .before .before .put-answer .ensures)
 
 pub put-question-spec : {M : Type 1} → statement M
 put-question-spec =
@@ -73,14 +57,9 @@ put-question-spec =
     literal-count-requires
     question-at-requires
     claim-count-requires
-    mul-answers-at
-    add-answers-at
     worker-count-requires
-    mul-answers-at-2
-    add-answers-at-2
-    add-word-at
-    word-at-requires
-    add-reading-of
+    answer-at-requires
+    mark-of-value-requires
     reading-of-requires
     put-answer-requires
     same-length
