@@ -8,7 +8,6 @@
 --   Index s index         the index: both, of all rules, and 0 for the claims that the job hasn't. So each entry is said
 --   endIn index i         the first place past literal i that a rule ends before, by the index: where the literal's rule ends
 --   ClaimLiterals s c     the literals of c, over its rules in file order, are the part from claimStart s c to claimStart s (c + 1)
---   cursorAt s c n        the cursor over claim c's literals that has passed n of them
 --   moved c               the cursor past the current literal; pastRule index c   the one past that literal's rule
 use Prim.Native.Nat.{ℕ, zero, suc, _+_, _-_, _/_, _%_, _^_, _≤_, _<_}
 use mathlib.Core.List.{List}
@@ -46,10 +45,18 @@ pub record Bounds (s index : List ℕ) (m : ℕ) : Type 0 where
   pub ends : (r : ℕ) → r < m → boundAt index (bodyStart s (r + 1)) ≡ true
   pub only : (i : ℕ) → boundsFrom + i / 16 < indexEntries → ((r : ℕ) → r < m → bodyStart s (r + 1) ≡ i → ⊥) → boundAt index i ≡ false
 
+-- what the places mean
+pub record ClaimLiterals (s : List ℕ) (c : ℕ) : Type 0 where
+  pub part : literalsOf c (jobOf s .rules) ≡ span (literalAt s (rules s)) (claimStart s c) (claimStart s (c + 1) - claimStart s c)
+  pub count : length (literalsOf c (jobOf s .rules)) ≡ claimStart s (c + 1) - claimStart s c
+  pub ordered : claimStart s c ≤ claimStart s (c + 1)
+  pub within : claimStart s (c + 1) ≤ literals s
+
 pub record Index (s index : List ℕ) : Type 0 where
   pub starts : Starts s index
   pub none : (c : ℕ) → claims s < c → c < boundsFrom → getD index c 0 ≡ 0
   pub bounds : Bounds s index (rules s)
+  pub literals : (c : ℕ) → ClaimLiterals s c
 
 unfoldable pub endFrom : ℕ → List ℕ → ℕ → ℕ
 unfolding pick
@@ -58,15 +65,6 @@ endFrom (suc n) index i = pick (boundAt index i) i (endFrom n index (i + 1))
 
 abbrev pub endIn : List ℕ → ℕ → ℕ
 endIn index i = endFrom (mostLiterals - i) index (i + 1)
-
-pub record ClaimLiterals (s : List ℕ) (c : ℕ) : Type 0 where
-  pub part : literalsOf c (jobOf s .rules) ≡ span (literalAt s (rules s)) (claimStart s c) (claimStart s (c + 1) - claimStart s c)
-  pub count : length (literalsOf c (jobOf s .rules)) ≡ claimStart s (c + 1) - claimStart s c
-  pub ordered : claimStart s c ≤ claimStart s (c + 1)
-  pub within : claimStart s (c + 1) ≤ literals s
-
-abbrev pub cursorAt : List ℕ → ℕ → ℕ → Cursor
-cursorAt s c n = record { at = claimStart s c + n; end = claimStart s (c + 1) }
 
 abbrev pub moved : Cursor → Cursor
 moved c = record { at = c .at + 1; end = c .end }

@@ -5,4 +5,5 @@ pub mod Finished
 pub mod Page
 pub mod Playing
 pub mod Accepting
+pub mod Worked
 pub mod Shown

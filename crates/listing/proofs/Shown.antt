@@ -29,6 +29,8 @@ use Rattle.job.proofs.Written.{questions-count}
 use Rattle.semantics.specs.Model.{Verdict, True, False, Undefined, programOf, verdict, byteOf}
 use Rattle.semantics.proofs.Missing.{missing-of}
 use Rattle.semantics.proofs.Textbook.{textbook-of}
+use Rattle.writing.proofs.Decimal.{decimals}
+use Rattle.writing.proofs.Wrote.{wrote-laws}
 use Rattle.table.specs.Questions.{positionsOf, askedBy, claimAsked, questionClaim}
 use Rattle.table.specs.Layout.{used, mark, markOf, answered, answerWord, answer, markOfValue, trueMark}
 use Rattle.table.specs.Start.{startWords}
@@ -50,6 +52,7 @@ use Rattle.listing.specs.Text.{blank, lineEnd, claimsWord, questionsWord
 use Rattle.listing.specs.Finish.{finishTurns, most}
 use Rattle.listing.specs.Listing.{jobPart, schedulePart, listingCheck, refusalLine, claimLine, questionLines, tallyLine, heading, textOf, questionLine, played, lastTable, listed, listingIf, listing}
 use Rattle.listing.specs.Told.{wordOf, verdictLine, Shows, Told}
+use Rattle.listing.proofs.Worked.{listingsRight}
 use Rattle.listing.proofs.Finished.{all-each, low-finish, finished-in, finished}
 use Rattle.listing.proofs.Accepting.{accepted-input}
 
@@ -292,4 +295,12 @@ module _ (i : List ℕ) (e : Accepted ≡ listingCheck i) where
       }
 
 pub told : (i : List ℕ) → Told i
-told i = record { some = listing-some i; shows = shows i; finished = finished (jobPart i) }
+told i =
+    record {
+      some = listing-some i;
+      shows = shows i;
+      finished = finished (jobPart i);
+      numbers = decimals;
+      bytes = wrote-laws;
+      worked = listingsRight;
+    }

@@ -4,11 +4,12 @@
 --   unopenedLine c     the line of a claim that has none
 --   Shows j t          what the lines of job j show, whose table is t at the end
 --   Told i             what holds of the listing of input i, whatever its schedule
-use Prim.Native.Nat.{ℕ, _<_, _≤_}
+use Prim.Native.Nat.{ℕ, _+_, _<_, _≤_}
 use mathlib.Core.Path.{_≡_}
 use mathlib.Core.List.{List, [], _∷_, _++_, flatMap}
 use lib.ListN.{length}
-use Rattle.writing.specs.Decimal.{decimal}
+use Rattle.writing.specs.Decimal.{decimal, Decimals}
+use Rattle.writing.specs.Written.{Wrote}
 use Rattle.job.specs.Job.{Job}
 use Rattle.job.specs.Format.{jobOf}
 use Rattle.job.specs.Checks.{checkJob}
@@ -25,6 +26,7 @@ use Rattle.calls.specs.Lists.{Complete}
 use Rattle.calls.specs.Promise.{Asked, OthersBehind}
 use Rattle.listing.specs.Text.{blank, lineEnd, trueName, falseName, undefinedName, unopenedName}
 use Rattle.listing.specs.Finish.{Finished}
+use Rattle.listing.specs.Worked.{ListingsRight}
 use Rattle.listing.specs.Listing.{jobPart, schedulePart, listingCheck, claimLine, questionLines, lastTable, listing}
 
 abbrev pub wordOf : Verdict → List ℕ
@@ -69,3 +71,8 @@ pub record Told (i : List ℕ) : Type 0 where
   pub shows : Accepted ≡ listingCheck i → Shows (jobOf (jobPart i)) (lastTable (jobOf (jobPart i)) (schedulePart i))
   -- of an accepted job: after any turns from a fresh start, turns 0 to T - 1 over and over answer all, in 2L + A + 3Q rounds at most
   pub finished : Accepted ≡ checkJob (jobPart i) → Finished (jobPart i)
+  -- numbers are decimal, and writing a text changes the bytes that it takes and no others
+  pub numbers : (n : ℕ) → Decimals n
+  pub bytes : (buf : List ℕ) (at : ℕ) (text : List ℕ) → at + length text ≤ length buf → Wrote buf at text
+  -- the listing that 01 shows
+  pub worked : ListingsRight

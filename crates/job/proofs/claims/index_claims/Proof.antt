@@ -8,7 +8,7 @@ use native.Mathlib.Decide.{decLt}
 use borrow.Author.Count.{below-none, below-more}
 use lib.ListN.{length, getD, length-set, length-replicate, getD-replicate}
 use lib.Seq.{getD-set-other}
-use Rattle.job.proofs.Contiguous.{starts-here, rule-there, rule-below, rule-past, index-more}
+use Rattle.job.proofs.Contiguous.{starts-here, rule-there, rule-below, rule-past, index-more, claim-literals}
 use Rattle.job.proofs.IndexEnds.{bounds-start, bounds-more, bounds-kept}
 use Rattle.job.proofs.Parts.{bodyStart-next, body-within}
 use Rattle.job.specs.Claims.{claimStart, boundsFrom, indexEntries, Bounds}
@@ -139,7 +139,7 @@ returns : tie.Need-returns Inv-loop μ-loop
 returns c =
     let l = c .before .loop in
     let e = l .inv .8 (omega arith) in
-    record { starts = λ d b. l .inv .6 d (omega arith); none = λ d a b. l .inv .9 d (omega arith) b; bounds = subst (Bounds _ (l .index)) e (l .inv .7) }
+    record { starts = λ d b. l .inv .6 d (omega arith); none = λ d a b. l .inv .9 d (omega arith) b; bounds = subst (Bounds _ (l .index)) e (l .inv .7); literals = claim-literals _ (c .before .before .before .before .before .before .pre) }
 
 pub index-claims-spec : {M : Type 1} → statement M
 index-claims-spec =
