@@ -45,6 +45,9 @@ pub fn question_count(job: &[u8]) -> usize
     bytes::word(job, 20)
 }
 
+// What a negated literal adds to its claim.
+pub const NEGATED: usize = 32768;
+
 // The body length of a missing record, which has no literals.
 const MISSING: usize = 65535;
 
@@ -80,10 +83,10 @@ pub fn literal_at(job: &[u8], rules: usize, k: usize) -> Literal
     ensures { λ r. ⌜ r ≡ literalAt (now (job .entry)) rules k ⌝ }
 {
     let field = bytes::half(job, 36 + 4 * rules + 2 * k);
-    if field < 32768 {
+    if field < NEGATED {
         return Literal::Plain(field);
     }
-    Literal::Negated(field - 32768)
+    Literal::Negated(field - NEGATED)
 }
 
 // The claim of a literal, plain or negated.

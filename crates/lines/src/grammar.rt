@@ -255,7 +255,7 @@ fn add_digit(number: usize, b: u8) -> usize
         return KEPT;
     }
     let more = 10 * number + (wide::byte(b) - 48);
-    if 65536 < more {
+    if KEPT < more {
         return KEPT;
     }
     more

@@ -5,6 +5,7 @@ ghost use mathlib.Core.Bool.{true};
 ghost use Prim.Native.Nat.{_≤_};
 ghost use lib.ListN.{length, replicate};
 ghost use Rattle.job.specs.Accepted.{WellFormed};
+ghost use Rattle.job.specs.Job.{mostClaims, mostRules, mostLiterals};
 ghost use Rattle.job.specs.Format.{claims};
 ghost use Rattle.model.specs.Output.{knownOutput};
 ghost use Rattle.model.specs.Rooms.{Within};
@@ -12,6 +13,7 @@ ghost use Rattle.model.specs.Rounds.{Unused};
 use crate::alternate;
 use crate::verdicts;
 use counters::occurrences;
+use job::checks;
 use job::format;
 
 // The rooms: at most so many claims, rules and positions (literals), and one more than there are keys.
@@ -31,11 +33,11 @@ const MIDDLE_POSITIONS: usize = 4096;
 
 const MIDDLE_KEYS: usize = 2049;
 
-const LARGE_CLAIMS: usize = 4096;
+const LARGE_CLAIMS: usize = checks::MOST_CLAIMS;
 
-const LARGE_RULES: usize = 6144;
+const LARGE_RULES: usize = checks::MOST_RULES;
 
-const LARGE_POSITIONS: usize = 16384;
+const LARGE_POSITIONS: usize = checks::MOST_LITERALS;
 
 const LARGE_KEYS: usize = 8193;
 
@@ -186,27 +188,27 @@ fn large_keys() -> [u16; LARGE_KEYS]
 }
 
 fn large_positions() -> [u16; LARGE_POSITIONS]
-    ensures { λ r. ⌜ r ≡ replicate 16384 0 ⌝ }
+    ensures { λ r. ⌜ r ≡ replicate mostLiterals 0 ⌝ }
 {
     [0u16; LARGE_POSITIONS]
 }
 
 fn large_rules() -> [u16; LARGE_RULES]
-    ensures { λ r. ⌜ r ≡ replicate 6144 0 ⌝ }
+    ensures { λ r. ⌜ r ≡ replicate mostRules 0 ⌝ }
 {
     [0u16; LARGE_RULES]
 }
 
 fn large_claims() -> [u8; LARGE_CLAIMS]
-    ensures { λ r. ⌜ r ≡ replicate 4096 0 ⌝ }
+    ensures { λ r. ⌜ r ≡ replicate mostClaims 0 ⌝ }
 {
     [0u8; LARGE_CLAIMS]
 }
 
-// The evaluation of a job with at most 4,096 claims, 6,144 rules and 16,384 literals.
+// The evaluation of every job.
 fn evaluate_large(job: &[u8], known: &[u8], out: &mut [u8])
     requires { ⌜ WellFormed (now job) ⌝ }
-    requires { ⌜ (Within (now job) 4096 6144 16384) × (length (now known) ≤ claims (now job)) × (claims (now job) ≤ length (now out)) ⌝ }
+    requires { ⌜ (Within (now job) mostClaims mostRules mostLiterals) × (length (now known) ≤ claims (now job)) × (claims (now job) ≤ length (now out)) ⌝ }
     ensures { λ r. ⌜ now (out .exit) ≡ knownOutput (now (job .entry)) (now (known .entry)) (now (out .entry)) ⌝ }
 {
     let n = format::claim_count(job);

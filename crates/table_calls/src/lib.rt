@@ -32,16 +32,7 @@ fn of_check(check: Check) -> u64
 fn of_kind(kind: Kind) -> u64
     ensures { λ r. ⌜ r ≡ kindNumber kind ⌝ }
 {
-    match kind {
-        Kind::Idle => 0,
-        Kind::Woke => 1,
-        Kind::Opened => 2,
-        Kind::Waits => 3,
-        Kind::Took => 4,
-        Kind::Passed => 5,
-        Kind::Completed => 6,
-        Kind::Answered => 7,
-    }
+    calls::tally::kind_number(kind) as u64
 }
 
 fn of_turn(answer: TurnAnswer) -> u64
