@@ -23,7 +23,7 @@ use Rattle.turn.specs.Turn.{lits, runTable}
 use Rattle.calls.specs.Lists.{Call, turnsOf, Complete}
 use Rattle.calls.specs.Promise.{Fresh, from, Asked}
 use Rattle.turn.proofs.Places.{place-low}
-use Rattle.steps.proofs.Promise.{LitAt, led-job, only-led}
+use Rattle.steps.proofs.OnTurns.{LitAt, led-job, only-led}
 use Rattle.calls.proofs.Histories.{turns-low, after-turns}
 use Rattle.calls.proofs.Answers.{complete-mark}
 use Rattle.calls.proofs.OnLists.{valid, ok, started, made-after}

@@ -32,7 +32,7 @@ use Rattle.steps.proofs.Verdicts.{verdictIn}
 use Rattle.steps.proofs.Changes.{turn-changes}
 use Rattle.steps.proofs.Starting.{Started, start-started, answered-zero}
 use Rattle.steps.proofs.Runs.{Made, made-start, made-run}
-use Rattle.steps.proofs.Promise as P
+use Rattle.steps.proofs.OnTurns as P
 use Rattle.steps.proofs.Bounds.{bound-is}
 use Rattle.calls.proofs.Histories.{turns-low, after-turns, events-turns}
 use Rattle.calls.proofs.Answers.{kind-idle, complete-mark, value-of, times-grow, answer-run}

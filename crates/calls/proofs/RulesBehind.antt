@@ -21,7 +21,6 @@ use Rattle.job.specs.declared.Literal.the-variants.{Plain, Negated}
 use Rattle.job.proofs.RuleEnds.{RuleAt, rule-at}
 use Rattle.semantics.specs.Model.{Verdict, True, False, Undefined, opposite, programOf, literalVerdict, byteOf}
 use Rattle.table.specs.Layout as W
-use Rattle.waiting.specs.Led as L
 use Rattle.turn.specs.Turn.{lits, litAt, failed}
 use Rattle.calls.specs.Lists.{Call, Complete}
 use Rattle.calls.specs.Promise.{Fresh, from, FalseAmong, OthersBehind}
@@ -30,7 +29,7 @@ use Rattle.turn.proofs.Jobs.{JobOk, lits-length, valid-ok}
 use Rattle.turn.proofs.Behind.{Behind, claim-lit, failed-done}
 use Rattle.steps.proofs.Verdicts.{verdictIn}
 use Rattle.steps.proofs.Runs.{Made}
-use Rattle.steps.proofs.Promise.{else-behind}
+use Rattle.steps.proofs.OnTurns.{else-behind}
 use Rattle.calls.proofs.Answers.{complete-mark, mark-complete}
 use Rattle.calls.proofs.OnLists.{valid, made-after}
 use Rattle.calls.proofs.Named.{member}

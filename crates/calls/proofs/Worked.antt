@@ -1,12 +1,12 @@
 -- The worked turns are accepted as calls, which is computed; so a run of one leaves what is stated for it. Assumes nothing.
 use Prim.Native.Nat.{ℕ}
-use mathlib.Core.Path.{_≡_, refl, sym, _∙_, ap, ap₂}
+use mathlib.Core.Path.{_≡_, refl, sym, _∙_, ap}
 use mathlib.Core.List.{List, map, flatMap}
 use Rattle.base.specs.Choose.{pick}
 use Rattle.base.specs.Compare.{under, over, notBelow, differs}
 use Rattle.base.specs.Sets.{one, count}
 use Rattle.base.specs.Span.{span}
-use Rattle.job.specs.Job.{Job, bodyCount, literalsOf}
+use Rattle.job.specs.Job.{bodyCount, literalsOf}
 use Rattle.job.specs.Bytes.{word, half}
 use Rattle.job.specs.Format.{jobOf, ruleAt, bodyLengthAt, missingAt, headBefore, bodyStart, literalOf}
 use Rattle.job.specs.Rows.{_⨾_, row, scan}
@@ -21,7 +21,6 @@ use Rattle.table.specs.Start.{startWords}
 use Rattle.table.specs.Ranges.{each, checkRoom, marked, checkClaim, checkWorker, checkWords, checkTable}
 use Rattle.turn.specs.Turn.{runTable, runKinds}
 use Rattle.turn.specs.Worked.{Case, cases}
-use Rattle.turn.specs.declared.Kind.{Kind}
 use Rattle.turn.proofs.Worked.{turnsRight}
 use Rattle.calls.specs.Calls.{checkSchedule, runCheck, tally, runTally, runLeft, Ran, runAnswer}
 use Rattle.calls.specs.Worked.{CasesRight, Worked}

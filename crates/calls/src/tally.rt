@@ -1,7 +1,7 @@
 // The tally of a run: how many turns were of each kind. The contracts cite `counted` of specs/Calls.
 ghost use mathlib.Core.Path.{_≡_};
 ghost use Prim.Native.Nat.{ℕ, _+_, _<_};
-ghost use lib.ListN.{length, getD, set, replicate};
+ghost use lib.ListN.{getD, set, replicate};
 ghost use Rattle.turn.specs.Turn.{kindNumber};
 use turn::Kind;
 

@@ -5,7 +5,7 @@
 --   sunk-fewer                  the set has no more claims than before
 --   Failing, Fails, failing-..  the places of one key, as `fall` walks them
 use Prim.Native.Nat.{ℕ, _+_, _-_, _<_, _≤_}
-use mathlib.Core.Path.{_≡_, refl, sym, _∙_, subst, subst⁻¹}
+use mathlib.Core.Path.{_≡_, refl, _∙_, subst, subst⁻¹}
 use mathlib.Core.Bool.{false}
 use mathlib.Core.List.{List}
 use mathlib.Core.Logic.{by-cases}

@@ -6,7 +6,7 @@ use mathlib.Core.List.{List}
 use mathlib.Core.Logic.{_↔_}
 use native.Mathlib.Omega.{arith}
 use lib.ListN.{length}
-use Rattle.base.specs.Compare.{under, over, notBelow}
+use Rattle.base.specs.Compare.{under, notBelow}
 use Rattle.base.proofs.Bools.{neither, or-no}
 use Rattle.base.proofs.Compare.{under-no, under-le, over-no, over-le, notBelow-no, notBelow-lt, differs-no, differs-eq}
 use Rattle.job.specs.Format.{rules, literals, bodyStart}

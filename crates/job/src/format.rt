@@ -4,7 +4,7 @@ ghost use Prim.Native.Nat.{_+_, _≤_};
 ghost use lib.ListN.{length};
 ghost use Rattle.base.specs.Number.{Number};
 ghost use Rattle.job.specs.Job.{claimOf};
-ghost use Rattle.job.specs.Format.{claims, rules, literals, workers, questions, ruleByte, literalByte, questionByte, headAt, missingAt, bodyLengthAt, literalOf, literalAt, questionAt};
+ghost use Rattle.job.specs.Format.{claims, rules, literals, workers, questions, ruleByte, literalByte, questionByte, headAt, missingAt, bodyLengthAt, literalAt, questionAt};
 use crate::Literal;
 use crate::Question;
 use crate::bytes;

@@ -32,7 +32,7 @@ use Rattle.turn.specs.Turn.{turn, runTable}
 use Rattle.calls.specs.Promise.{Fresh, bound}
 use Rattle.steps.proofs.Starting.{start-started}
 use Rattle.steps.proofs.Runs.{Low}
-use Rattle.steps.proofs.Promise.{rounds}
+use Rattle.steps.proofs.OnTurns.{rounds}
 use Rattle.steps.proofs.Bounds.{bound-is}
 use Rattle.calls.proofs.OnLists.{valid, ok}
 use Rattle.calls.proofs.Histories.{run-append, low-append, low-all}

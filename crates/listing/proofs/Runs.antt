@@ -28,7 +28,6 @@ use Rattle.job.specs.declared.Question.{Question}
 use Rattle.table.specs.declared.Reading.{Reading}
 use Rattle.table.specs.Reading.{readingOf}
 use Rattle.table.specs.Layout.{mark, answerAt, answer, markOfValue}
-use Rattle.calls.specs.Calls.{counted, tally}
 use Rattle.listing.specs.Text.{blank, lineEnd, refusedWord, tallyWord, nameOf}
 use Rattle.listing.specs.Listing.{refusalLine, claimLine, countText, tallyLine, answerLine, questionLine, questionLines, lineOf}
 use Rattle.listing.proofs.Names.{name-room}

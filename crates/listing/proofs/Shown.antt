@@ -42,7 +42,7 @@ use Rattle.calls.specs.Promise as P
 use Rattle.calls.specs.Promise.{Asked}
 use Rattle.steps.proofs.Starting.{start-started}
 use Rattle.steps.proofs.Runs.{Low, Made, made-start, made-run}
-use Rattle.steps.proofs.Promise.{only-led, none-open}
+use Rattle.steps.proofs.OnTurns.{only-led, none-open}
 use Rattle.calls.proofs.Named.{led-asked}
 use Rattle.calls.proofs.RulesBehind.{stands-behind}
 use Rattle.calls.proofs.Answers.{complete-mark, mark-complete}

@@ -18,7 +18,7 @@
 --   roomLength i out, roomBytes i out   what a call that is lent `out` answers as the length, and leaves as its bytes
 use Prim.Native.Nat.{ℕ, _+_}
 use mathlib.Core.List.{List, [], _∷_, _++_, flatMap}
-use lib.ListN.{length, getD, take, drop, replicate}
+use lib.ListN.{length, take, drop, replicate}
 use Rattle.base.specs.Choose.{pick}
 use Rattle.base.specs.Compare.{under, over}
 use Rattle.base.specs.Lists.{upto}

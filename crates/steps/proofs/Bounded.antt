@@ -21,7 +21,7 @@ use Rattle.turn.specs.Worked.{two}
 use Rattle.turn.proofs.Jobs.{valid-ok}
 use Rattle.steps.proofs.Starting.{start-started}
 use Rattle.steps.proofs.Runs.{sizes, Low}
-use Rattle.steps.proofs.Promise.{rounds}
+use Rattle.steps.proofs.OnTurns.{rounds}
 
 module _ {A : Type 0} (P : A → Type 0) (a : A) (p : P a) where
   one-all : (x : A) → x ∈ (a ∷ []) → P x

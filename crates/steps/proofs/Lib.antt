@@ -12,7 +12,7 @@ pub mod Steady
 pub mod Kept
 pub mod Starting
 pub mod Runs
-pub mod Promise
+pub mod OnTurns
 pub mod Counted
 pub mod Past
 pub mod Bounds

@@ -1,7 +1,6 @@
 // The table's calls for programs in other languages, so that tests can hold them to an evaluator of other authorship.
 // Thin over the crate calls: each answer becomes one number (specs/Numbers).
 ghost use mathlib.Core.Path.{_≡_};
-ghost use lib.ListN.{length};
 ghost use Rattle.calls.specs.Calls.{startCheck, startTable, turnCheck, turnAnswer, turnTable, runCheck, runAnswer, runLeft, readCheck, readAnswer};
 ghost use Rattle.turn.specs.Turn.{kindNumber};
 ghost use Rattle.table_calls.specs.Numbers.{ofRefusal, ofCheck, ofTurn, ofReading, ofRead, copied};

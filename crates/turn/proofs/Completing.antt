@@ -5,14 +5,14 @@
 --   completed         the marks stored from the bytes evaluated are those of completion
 --   work-completed, work-idle, work-passes   the turn, by what was gathered
 --   left-one          the newest claim with a literal left is a claim, is w's, and has one
-use Prim.Native.Nat.{ℕ, zero, suc, _+_, _-_, _<_}
+use Prim.Native.Nat.{ℕ, zero, suc, _-_, _<_}
 use mathlib.Core.Path.{_≡_, refl, sym, _∙_, ap, ap₂, subst⁻¹}
 use mathlib.Core.Bool.{Bool, true, false, not, _&&_, false≢true}
-use mathlib.Core.List.{List, [], _∷_, _++_}
+use mathlib.Core.List.{List, [], _∷_}
 use native.Mathlib.Omega.{arith}
 use borrow.Author.Tests.{eq-eqb, ne-eqb}
 use lib.Dec.{ltb, eqb}
-use lib.ListN.{length, getD, set, drop}
+use lib.ListN.{length, getD, set}
 use Rattle.base.specs.Choose.{pick}
 use Rattle.base.specs.Span.{span}
 use Rattle.base.specs.Sets.{setOf}

@@ -6,7 +6,7 @@
 --   Passing           what was read of claim c and its next literal's claim b, and the table u with c's cursor moved on
 --   moved-..          that table is in range, and what the rest of the turn needs of it
 --   pass-..           the turn, by the mark of b
-use Prim.Native.Nat.{ℕ, zero, suc, _+_, _*_, _-_, _≤_, _<_}
+use Prim.Native.Nat.{ℕ, zero, suc, _+_, _-_, _≤_, _<_}
 use mathlib.Core.Path.{_≡_, refl, sym, _∙_, ap, ap₂, subst, subst⁻¹}
 use mathlib.Core.Bool.{Bool, true, false, not}
 use mathlib.Core.List.{List}
@@ -24,10 +24,9 @@ use Rattle.base.proofs.Lists.{keep-same}
 use Rattle.base.proofs.Sets.{count-le, count-mono, count-less}
 use Rattle.base.proofs.Span.{getD-span}
 use Rattle.job.specs.Job.{Job, claimOf, literalsOf, mostClaims, mostLiterals}
-use Rattle.job.specs.Format.{claims, rules, literals, workers, literalByte, literalAt, jobOf}
+use Rattle.job.specs.Format.{claims, rules, literals, workers, literalAt, jobOf}
 use Rattle.job.specs.Accepted.{WellFormed}
 use Rattle.job.specs.Claims.{claimStart, Index, moved}
-use Rattle.job.specs.declared.Literal.{Literal}
 use Rattle.job.specs.declared.Cursor.{Cursor}
 use Rattle.job.proofs.Contiguous.{claim-literals}
 use Rattle.table.specs.Layout.{opened, markWord, cursorWord, numberWord, mark, cursor, number, awaitedWord, awaited, answerWord, fresh, answeredAt, awaitedAt, openedWord, trueMark, undefinedMark, workersFrom}

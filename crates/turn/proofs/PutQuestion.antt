@@ -1,5 +1,5 @@
 -- A worker puts its next question: what the code read, and the turn that the definition says. Assumes nothing.
-use Prim.Native.Nat.{ℕ, zero, suc, _+_, _*_, _-_, _<_, _≤_}
+use Prim.Native.Nat.{ℕ, zero, suc, _+_, _-_, _<_, _≤_}
 use mathlib.Core.Path.{_≡_, sym, _∙_, ap, ap₂}
 use mathlib.Core.Bool.{true, false}
 use mathlib.Core.List.{List}
@@ -7,10 +7,8 @@ use mathlib.Core.Logic.{by-cases}
 use native.Mathlib.Omega.{arith}
 use native.Mathlib.Decide.{decLt}
 use borrow.Author.Tests.{eq-eqb, ne-eqb, le-leb, lt-leb, lt-ltb, le-ltb}
-use lib.Dec.{T, eqb, ltb, leb}
+use lib.Dec.{leb}
 use lib.ListN.{length, getD, set}
-use Rattle.base.specs.Choose.{pick}
-use Rattle.base.specs.Sets.{count}
 use Rattle.base.specs.Span.{span}
 use Rattle.base.proofs.Choose.{pick-true, pick-false}
 use Rattle.job.specs.Job.{Job, mostClaims}
@@ -19,8 +17,8 @@ use Rattle.job.specs.Accepted.{WellFormed}
 use Rattle.job.specs.declared.Question.{Question}
 use Rattle.job.proofs.Parts.{Asked}
 use Rattle.table.specs.Questions.{askedBy, claimAsked, questionClaim}
-use Rattle.table.specs.Layout.{opened, mark, fresh, complete, answered, answerAt, answeredAt, awaitedAt, trueMark, valueOf}
-use Rattle.table.specs.Ranges.{InRange, marked}
+use Rattle.table.specs.Layout.{opened, mark, complete, answered, answerAt, answeredAt, awaitedAt, trueMark, valueOf}
+use Rattle.table.specs.Ranges.{InRange}
 use Rattle.turn.proofs.Making.{made-as}
 use Rattle.turn.proofs.Cursors.{opened-few}
 use Rattle.turn.specs.Turn.{Turned, openClaim, askTurn}

@@ -7,7 +7,7 @@
 --   met s m index t c   the claims of the literals that cursor c has left, and that stand behind no false one
 --   Fits n k        the set is one of n claims, and the stack has room for every claim that was not met
 --   Room s m index t n c k   what meeting the claims of the literals under cursor c needs, of a job s with m rules and n claims and a table t
-use Prim.Native.Nat.{ℕ, zero, suc, _+_, _*_, _-_, _<_, _≤_}
+use Prim.Native.Nat.{ℕ, zero, suc, _+_, _-_, _<_, _≤_}
 use mathlib.Core.Path.{_≡_}
 use mathlib.Core.List.{List, [], _∷_}
 use lib.ListN.{length, set}

@@ -8,14 +8,14 @@
 --   TurnsRight      the theorem: the turns of all cases are of the kinds stated, and leave the tables stated
 use Prim.Native.Nat.{ℕ}
 use mathlib.Core.Path.{_≡_}
-use mathlib.Core.Bool.{Bool, false}
+use mathlib.Core.Bool.{false}
 use mathlib.Core.List.{List, [], _∷_, _++_, map, flatMap}
 use lib.Dec.{eqb}
 use lib.ListN.{getD}
 use Rattle.job.specs.Job.{Rule, _if_, missingRecord, Job}
 use Rattle.job.specs.declared.Literal.the-variants.{Plain, Negated}
 use Rattle.job.specs.declared.Question.{Question}
-use Rattle.table.specs.Layout.{header, markWord, cursorWord, awaitedWord}
+use Rattle.table.specs.Layout.{header, markWord, cursorWord, awaitedWord, trueMark, falseMark, undefinedMark}
 use Rattle.table.specs.Start.{startWords}
 use Rattle.turn.specs.Turn.{runTable, runKinds}
 use Rattle.turn.specs.declared.Kind.{Kind}
@@ -61,7 +61,7 @@ two = jobOf 2 2 ((0 if Plain 1 ∷ []) ∷ (1 if Plain 0 ∷ []) ∷ []) ((0 ask
 abbrev twoCase : Case
 twoCase =
     started two (0 ∷ 1 ∷ 0 ∷ 1 ∷ 1 ∷ 1 ∷ 0 ∷ 0 ∷ []) (Opened ∷ Opened ∷ Waits ∷ Took ∷ Completed ∷ Answered ∷ Woke ∷ Answered ∷ [])
-    (tableOf two 2 (claim 257 1 1 ∷ claim 257 1 2 ∷ []) (worker 0 1 ∷ worker 0 1 ∷ []) (2 ∷ 2 ∷ []))
+    (tableOf two 2 (claim falseMark 1 1 ∷ claim falseMark 1 2 ∷ []) (worker 0 1 ∷ worker 0 1 ∷ []) (2 ∷ 2 ∷ []))
 
 -- "0 if 1, 1 if 2, 2 if 0 with three workers asking 0, 1, 2, schedule 0 1 2 0 1 2 2: opened three times, waits, waits, took, completed."
 abbrev three : Job
@@ -70,7 +70,7 @@ three = jobOf 3 3 ((0 if Plain 1 ∷ []) ∷ (1 if Plain 2 ∷ []) ∷ (2 if Pla
 abbrev threeCase : Case
 threeCase =
     started three (0 ∷ 1 ∷ 2 ∷ 0 ∷ 1 ∷ 2 ∷ 2 ∷ []) (Opened ∷ Opened ∷ Opened ∷ Waits ∷ Waits ∷ Took ∷ Completed ∷ [])
-    (tableOf three 3 (claim 257 1 1 ∷ claim 257 1 2 ∷ claim 257 1 3 ∷ []) (worker 2 0 ∷ worker 3 0 ∷ worker 0 0 ∷ []) (0 ∷ 0 ∷ 0 ∷ []))
+    (tableOf three 3 (claim falseMark 1 1 ∷ claim falseMark 1 2 ∷ claim falseMark 1 3 ∷ []) (worker 2 0 ∷ worker 3 0 ∷ worker 0 0 ∷ []) (0 ∷ 0 ∷ 0 ∷ []))
 
 -- (02, order 5) "the turn moves the cursor to the rule's end and answers passed": a turn of its own, and no further than that rule.
 -- 0 if 1, 2; 0 if 3; 3 always. 1 has no rule, so 2 is never opened, and 3 is.
@@ -80,7 +80,7 @@ plain = jobOf 4 1 ((0 if Plain 1 ∷ Plain 2 ∷ []) ∷ (0 if Plain 3 ∷ []) �
 abbrev plainCase : Case
 plainCase =
     started plain (0 ∷ 0 ∷ 0 ∷ 0 ∷ 0 ∷ 0 ∷ 0 ∷ 0 ∷ []) (Opened ∷ Opened ∷ Completed ∷ Passed ∷ Opened ∷ Completed ∷ Completed ∷ Answered ∷ [])
-    (tableOf plain 3 (claim 256 3 1 ∷ claim 257 0 2 ∷ claim 0 0 0 ∷ claim 256 0 3 ∷ []) (worker 0 1 ∷ []) (1 ∷ []))
+    (tableOf plain 3 (claim trueMark 3 1 ∷ claim falseMark 0 2 ∷ claim 0 0 0 ∷ claim trueMark 0 3 ∷ []) (worker 0 1 ∷ []) (1 ∷ []))
 
 -- false as a literal: 0 if not 1, 2; 1 always. 2 is never opened; but with no rule of 1 it is.
 abbrev negated : List Rule → Job
@@ -89,19 +89,19 @@ negated rs = jobOf 3 1 ((0 if Negated 1 ∷ Plain 2 ∷ []) ∷ rs) ((0 asks 0) 
 abbrev negatedCase : Case
 negatedCase =
     started (negated ((1 if []) ∷ [])) (0 ∷ 0 ∷ 0 ∷ 0 ∷ 0 ∷ 0 ∷ []) (Opened ∷ Opened ∷ Completed ∷ Passed ∷ Completed ∷ Answered ∷ [])
-    (tableOf (negated ((1 if []) ∷ [])) 2 (claim 257 2 1 ∷ claim 256 0 2 ∷ claim 0 0 0 ∷ []) (worker 0 1 ∷ []) (2 ∷ []))
+    (tableOf (negated ((1 if []) ∷ [])) 2 (claim falseMark 2 1 ∷ claim trueMark 0 2 ∷ claim 0 0 0 ∷ []) (worker 0 1 ∷ []) (2 ∷ []))
 
 abbrev holdingCase : Case
 holdingCase =
     started (negated []) (0 ∷ 0 ∷ 0 ∷ 0 ∷ 0 ∷ 0 ∷ 0 ∷ []) (Opened ∷ Opened ∷ Completed ∷ Opened ∷ Completed ∷ Completed ∷ Answered ∷ [])
-    (tableOf (negated []) 3 (claim 257 2 1 ∷ claim 257 0 2 ∷ claim 257 0 3 ∷ []) (worker 0 1 ∷ []) (2 ∷ []))
+    (tableOf (negated []) 3 (claim falseMark 2 1 ∷ claim falseMark 0 2 ∷ claim falseMark 0 3 ∷ []) (worker 0 1 ∷ []) (2 ∷ []))
 
 -- "A literal behind a complete false one in its rule no longer leads anywhere": 0 if 1, 2, both passed, 1 false and 2 open. 0 is completed without 2.
 abbrev behind : Job
 behind = jobOf 3 1 ((0 if Plain 1 ∷ Plain 2 ∷ []) ∷ []) ((0 asks 0) ∷ [])
 
 abbrev behindWords : ℕ → List ℕ
-behindWords m = tableOf behind 3 (claim m 2 3 ∷ claim 257 0 2 ∷ claim 1 0 1 ∷ []) (worker 0 0 ∷ []) (0 ∷ [])
+behindWords m = tableOf behind 3 (claim m 2 3 ∷ claim falseMark 0 2 ∷ claim 1 0 1 ∷ []) (worker 0 0 ∷ []) (0 ∷ [])
 
 -- (02, order 2) a missing record costs no turn and leads nowhere: 0 if 1, and records of 0 and 1. Both are undefined.
 abbrev unmeasured : Job
@@ -110,7 +110,7 @@ unmeasured = jobOf 2 1 (missingRecord 0 ∷ (0 if Plain 1 ∷ []) ∷ missingRec
 abbrev unmeasuredCase : Case
 unmeasuredCase =
     started unmeasured (0 ∷ 0 ∷ 0 ∷ 0 ∷ 0 ∷ []) (Opened ∷ Opened ∷ Completed ∷ Completed ∷ Answered ∷ [])
-    (tableOf unmeasured 2 (claim 258 1 1 ∷ claim 258 0 2 ∷ []) (worker 0 1 ∷ []) (3 ∷ []))
+    (tableOf unmeasured 2 (claim undefinedMark 1 1 ∷ claim undefinedMark 0 2 ∷ []) (worker 0 1 ∷ []) (3 ∷ []))
 
 -- "each claim complete before has its rules exchanged", its missing record too: 0 if 1, and a record of 1, which a table that no run made calls
 -- false. Then 0 is false.
@@ -118,7 +118,7 @@ abbrev dropped : Job
 dropped = jobOf 2 1 ((0 if Plain 1 ∷ []) ∷ missingRecord 1 ∷ []) ((0 asks 0) ∷ [])
 
 abbrev droppedWords : ℕ → List ℕ
-droppedWords m = tableOf dropped 2 (claim m 1 1 ∷ claim 257 0 2 ∷ []) (worker 0 0 ∷ []) (0 ∷ [])
+droppedWords m = tableOf dropped 2 (claim m 1 1 ∷ claim falseMark 0 2 ∷ []) (worker 0 0 ∷ []) (0 ∷ [])
 
 -- the faulty engine's table has `wrong` in word `word`
 pub record Fault : Type 0 where
@@ -160,9 +160,9 @@ faults =
     record {
       case =
           started denied (0 ∷ 0 ∷ 0 ∷ 0 ∷ []) (Opened ∷ Opened ∷ Completed ∷ Completed ∷ [])
-          (tableOf denied 2 (claim 257 1 1 ∷ claim 256 0 2 ∷ []) (worker 0 0 ∷ []) (0 ∷ []));
+          (tableOf denied 2 (claim falseMark 1 1 ∷ claim trueMark 0 2 ∷ []) (worker 0 0 ∷ []) (0 ∷ []));
       word = markWord 0;
-      wrong = 256;
+      wrong = trueMark;
     } ∷
     -- "A claim completed when its own literals are passed though it reaches an older open one.": 1 would be complete, false
     record {
@@ -170,7 +170,7 @@ faults =
           started older (0 ∷ 0 ∷ 0 ∷ 0 ∷ []) (Opened ∷ Opened ∷ Passed ∷ Opened ∷ [])
           (tableOf older 3 (claim 1 2 1 ∷ claim 1 1 2 ∷ claim 1 0 3 ∷ []) (worker 0 0 ∷ []) (0 ∷ []));
       word = markWord 1;
-      wrong = 257;
+      wrong = falseMark;
     } ∷
     -- "Takeover of the awaited claims only: the rest stay with waiting workers and the table sticks.": 2 would stay worker 0's
     record { case = ringCase; word = markWord 2; wrong = 1 } ∷
@@ -184,8 +184,8 @@ faults =
 
 abbrev pub cases : List Case
 cases =
-    twoCase ∷ threeCase ∷ plainCase ∷ negatedCase ∷ holdingCase ∷ lent behind (behindWords 1) Completed (behindWords 257) ∷ unmeasuredCase
-    ∷ lent dropped (droppedWords 1) Completed (droppedWords 257) ∷ map (λ f. f .case) faults
+    twoCase ∷ threeCase ∷ plainCase ∷ negatedCase ∷ holdingCase ∷ lent behind (behindWords 1) Completed (behindWords falseMark) ∷ unmeasuredCase
+    ∷ lent dropped (droppedWords 1) Completed (droppedWords falseMark) ∷ map (λ f. f .case) faults
 
 pub record TurnsRight : Type 0 where
   pub kinds : map (λ c. runKinds (c .job) (c .before) (c .schedule)) cases ≡ map (λ c. c .kinds) cases

@@ -1,8 +1,7 @@
 // The turn of a worker that owns nothing open: its next question. The contracts cite `askTurn` of specs/Turn.
 ghost use mathlib.Core.Path.{_≡_};
-ghost use Prim.Native.Nat.{ℕ, _+_, _*_, _≤_, _<_};
-ghost use lib.ListN.{length, getD, set};
-ghost use Rattle.job.specs.Format.{claims as claimsOf, workers as workersOf, questions as questionsOf, jobOf};
+ghost use Prim.Native.Nat.{_+_, _<_};
+ghost use Rattle.job.specs.Format.{workers as workersOf, questions as questionsOf, jobOf};
 ghost use Rattle.job.specs.Accepted.{WellFormed};
 ghost use Rattle.table.specs.Layout.{answered as answeredOf};
 ghost use Rattle.table.specs.Ranges.{InRange};

@@ -1,6 +1,6 @@
 // Gathering what a claim reaches: a worklist, in which each claim stands at most once. The contracts cite specs/Gather and `reached` of specs/Turn.
 ghost use mathlib.Core.Path.{_≡_};
-ghost use Prim.Native.Nat.{ℕ, _+_, _*_, _≤_, _<_};
+ghost use Prim.Native.Nat.{ℕ, _+_, _≤_, _<_};
 ghost use lib.ListN.{length, getD};
 ghost use Rattle.base.specs.Lists.{isIn};
 ghost use Rattle.job.specs.Job.{mostClaims, mostLiterals};

@@ -5,7 +5,6 @@ use Prim.Native.Nat.{ℕ, zero, suc, _+_, _-_, _≤_, _<_}
 use native.Mathlib.Omega.{arith}
 use native.Mathlib.Decide.{decLt}
 use Rattle.waiting.specs.State.{State, Inv}
-use Rattle.waiting.specs.Steps as S
 use Rattle.waiting.specs.Steps.{Step, woke, answered, opened-asked, waits-asked, passed, skipped, opened, waits, took, Ready, wakes, answers, opens, awaits, passes, Start}
 use Rattle.waiting.specs.Bound.{Total}
 use Rattle.waiting.specs.Runs.{Sizes, bound, Ranged, Run, stop, moved, idled, Rounds, none, round, AllAnswered}

@@ -7,7 +7,6 @@ use native.Mathlib.Omega.{arith}
 use native.Mathlib.Decide.{ℕ-discrete}
 use mathlib.Core.Logic.{by-cases}
 use borrow.Author.Tests.{lt-ltb, le-ltb, eq-eqb, ne-eqb}
-use lib.Dec.{eqb, ltb}
 use lib.ListN.{length}
 use Rattle.job.specs.Rows.{_⨾_, row, scan}
 use Rattle.job.specs.Format.{claims, rules, literals, ruleByte, literalByte, questionByte}

@@ -1,6 +1,6 @@
 -- `turn::failing::rule_failed` meets its contract. The loop's invariant, `Looking` (proofs/Skipping): of the literals passed, those looked at, from
 -- the last one back, are of the next one's rule, and none is false. The measure is how many are left. Assumes nothing.
-use Prim.Native.Nat.{ℕ, _+_, _-_, _≤_, _<_}
+use Prim.Native.Nat.{ℕ, _+_, _-_, _<_}
 use mathlib.Core.Bool.{Bool}
 use mathlib.Core.List.{List}
 use mathlib.Core.Path.{_≡_, sym, _∙_, ap}

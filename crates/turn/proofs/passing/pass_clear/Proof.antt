@@ -8,7 +8,7 @@ use lib.ListN.{set}
 use Rattle.job.proofs.Accepted.{header-room}
 use Rattle.table.specs.Layout.{cursorWord}
 use Rattle.turn.proofs.Tests.{complete-yes, complete-no}
-use Rattle.turn.proofs.Cursors.{next-few, next-there, next-left, next-is, moved-low, moved-by-one, Passing, moved-length, moved-range, moved-opened, moved-owner, moved-ready, pass-complete, pass-own, pass-fresh, pass-took, pass-waits}
+use Rattle.turn.proofs.Cursors.{next-there, next-left, next-is, moved-low, moved-by-one, Passing, moved-length, moved-range, moved-opened, moved-owner, moved-ready, pass-complete, pass-own, pass-fresh, pass-took, pass-waits}
 use Rattle.turn.proofs.Following.{room}
 use Rattle.turn.proofs.passing.pass_clear.Statement.{statement}
 use Rattle.turn.proofs.passing.pass_clear.Tie as tie
