@@ -7,3 +7,5 @@ pub mod Playing
 pub mod Accepting
 pub mod Worked
 pub mod Shown
+pub mod Whole
+pub mod ToldOf

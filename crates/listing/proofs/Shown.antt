@@ -3,7 +3,6 @@
 --   named-unopened         a fresh claim is shown as unopened; not-open, fresh-not-open   neither a complete one nor a fresh one is shown as open
 --   answer-shown, claim-shown, literal-shown, claim-fresh, claim-asked   the words of questions and claims, once all turns are played
 --   named, lines-shown     verdicts by their names, and the question lines that show them
---   told                   specs/Told, of every input
 use Prim.Native.Nat.{ℕ, zero, suc, _+_, _≤_, _<_}
 use mathlib.Core.Path.{_≡_, refl, sym, _∙_, ap, ap₂, subst}
 use mathlib.Core.Bool.{Bool, true, false}
@@ -29,8 +28,6 @@ use Rattle.job.proofs.Written.{questions-count}
 use Rattle.semantics.specs.Model.{Verdict, True, False, Undefined, programOf, verdict, byteOf}
 use Rattle.semantics.proofs.Missing.{missing-of}
 use Rattle.semantics.proofs.Textbook.{textbook-of}
-use Rattle.writing.proofs.Decimal.{decimals}
-use Rattle.writing.proofs.Wrote.{wrote-laws}
 use Rattle.table.specs.Questions.{positionsOf, askedBy, claimAsked, questionClaim}
 use Rattle.table.specs.Layout.{used, mark, markOf, answered, answerWord, answer, markOfValue, trueMark}
 use Rattle.table.specs.Start.{startWords}
@@ -51,9 +48,8 @@ use Rattle.calls.proofs.Histories.{low-append, low-all}
 use Rattle.listing.specs.Text.{blank, lineEnd, claimsWord, questionsWord, refusedWord, nameOf, unopenedName}
 use Rattle.listing.specs.Finish.{finishTurns, most}
 use Rattle.listing.specs.Listing.{jobPart, schedulePart, listingCheck, refusalLine, claimLine, questionLines, tallyLine, heading, textOf, questionLine, played, lastTable, listed, listingIf, listing}
-use Rattle.listing.specs.Told.{wordOf, verdictLine, Shows, Told}
-use Rattle.listing.proofs.Worked.{listingsRight}
-use Rattle.listing.proofs.Finished.{all-each, low-finish, finished-in, finished}
+use Rattle.listing.specs.Told.{wordOf, verdictLine, Shows}
+use Rattle.listing.proofs.Finished.{all-each, low-finish, finished-in}
 use Rattle.listing.proofs.Accepting.{accepted-input}
 
 -- question i of a list, among those of its worker
@@ -251,7 +247,7 @@ unfolding listingIf listed
 checked-some Accepted i = text-some _ _ _
 checked-some (Refused n p) i = refusal-some n p
 
-listing-some : (i : List ℕ) → 1 ≤ length (listing i)
+pub listing-some : (i : List ℕ) → 1 ≤ length (listing i)
 unfolding listing
 listing-some i = checked-some (listingCheck i) i
 
@@ -274,7 +270,7 @@ module _ (i : List ℕ) (e : Accepted ≡ listingCheck i) where
   unfolding jobOf
   names-low = low-all (jobOf s) (schedulePart i) (accepted-input i e .low)
 
-  shows : Shows (jobOf s) (lastTable (jobOf s) (schedulePart i))
+  pub shows : Shows (jobOf s) (lastTable (jobOf s) (schedulePart i))
   unfolding lastTable
   shows =
       let good = accepted-input i e .job in
@@ -293,14 +289,3 @@ module _ (i : List ℕ) (e : Accepted ≡ listingCheck i) where
         missing = missing-of s (well-formed s good);
         textbook = textbook-of s (well-formed s good);
       }
-
-pub told : (i : List ℕ) → Told i
-told i =
-    record {
-      some = listing-some i;
-      shows = shows i;
-      finished = finished (jobPart i);
-      numbers = decimals;
-      bytes = wrote-laws;
-      worked = listingsRight;
-    }

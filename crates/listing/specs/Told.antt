@@ -3,15 +3,17 @@
 --   verdictLine j q    the line of question q that has its claim's verdict; valueLine j c   the line of claim c that has its verdict
 --   unopenedLine c     the line of a claim that has none
 --   Shows j t          what the lines of job j show, whose table is t at the end
+--   Scheduled j ws, Listing j ws   a job with a schedule behind it, and what its listing is
 --   Told i             what holds of the listing of input i, whatever its schedule
 use Prim.Native.Nat.{ℕ, _+_, _<_, _≤_}
 use mathlib.Core.Path.{_≡_}
 use mathlib.Core.List.{List, [], _∷_, _++_, flatMap}
-use lib.ListN.{length}
+use lib.ListN.{length, getD}
 use Rattle.writing.specs.Decimal.{decimal, Decimals}
 use Rattle.writing.specs.Written.{Wrote}
 use Rattle.job.specs.Job.{Job}
 use Rattle.job.specs.Format.{jobOf}
+use Rattle.job.specs.Encoding.{encode, Valid}
 use Rattle.job.specs.Checks.{checkJob}
 use Rattle.job.specs.declared.Check.the-variants.{Accepted}
 use Rattle.job.specs.declared.Question.{Question}
@@ -27,7 +29,7 @@ use Rattle.calls.specs.Promise.{Asked, OthersBehind}
 use Rattle.listing.specs.Text.{blank, lineEnd, trueName, falseName, undefinedName, unopenedName}
 use Rattle.listing.specs.Finish.{Finished}
 use Rattle.listing.specs.Worked.{ListingsRight}
-use Rattle.listing.specs.Listing.{jobPart, schedulePart, listingCheck, claimLine, questionLines, lastTable, listing}
+use Rattle.listing.specs.Listing.{jobPart, schedulePart, listingCheck, claimLine, questionLines, lastTable, listing, mostInput, listed}
 
 abbrev pub wordOf : Verdict → List ℕ
 wordOf True = trueName
@@ -65,10 +67,23 @@ pub record Shows (j : Job) (t : List ℕ) : Type 0 where
   -- (02, order 9) and those by greatest unfounded sets
   pub textbook : Textbook j
 
+-- turns of the job's workers that may stand behind it
+pub record Scheduled (j : Job) (ws : List ℕ) : Type 0 where
+  pub fits : length (encode j) + length ws ≤ mostInput
+  pub named : (k : ℕ) → k < length ws → getD ws k 0 < j .workers
+
+-- the listing of a job with its schedule behind it: accepted, of that job and those turns, and it shows the model
+pub record Listing (j : Job) (ws : List ℕ) : Type 0 where
+  pub accepted : Accepted ≡ listingCheck (encode j ++ ws)
+  pub text : listing (encode j ++ ws) ≡ listed j ws
+  pub shows : Shows j (lastTable j ws)
+
 pub record Told (i : List ℕ) : Type 0 where
   -- the text is never empty: a length of 0 means that there was no room
   pub some : 1 ≤ length (listing i)
   pub shows : Accepted ≡ listingCheck i → Shows (jobOf (jobPart i)) (lastTable (jobOf (jobPart i)) (schedulePart i))
+  -- and of every job within the limits, whatever turns of its workers stand behind it
+  pub whole : (j : Job) → Valid j → (ws : List ℕ) → Scheduled j ws → Listing j ws
   -- of an accepted job: after any turns from a fresh start, turns 0 to T - 1 over and over answer all, in 2L + A + 3Q rounds at most
   pub finished : Accepted ≡ checkJob (jobPart i) → Finished (jobPart i)
   -- numbers are decimal, and writing a text changes the bytes that it takes and no others

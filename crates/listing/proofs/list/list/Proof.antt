@@ -2,7 +2,7 @@
 use mathlib.Core.Path.{_∙_}
 use native.Mathlib.Omega.{arith}
 use Rattle.listing.proofs.Accepting.{room-by, no-room, in-room, check-short, check-room}
-use Rattle.listing.proofs.Shown.{told}
+use Rattle.listing.proofs.ToldOf.{told}
 use borrow.Author.Needs.{needs}
 use Rattle.listing.proofs.list.list.Statement.{statement}
 use Rattle.listing.proofs.list.list.Tie as tie

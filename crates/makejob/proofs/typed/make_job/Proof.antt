@@ -13,7 +13,7 @@ same-length c = search needs
 returns : tie.Need-returns
 returns c =
     let t = c .before .before .job-of-lines .ensures in
-    (t .0, (t .1, λ l e ok. let m = t .0 .made l e in lists l (m .valid ok) (m .accepted ok)))
+    (t .0, (t .1, λ l e ok. let m = t .0 .made l e in lists l (m .valid ok)))
 
 pub make-job-spec : {M : Type 1} → statement M
 make-job-spec = tie.close (tie.spec job-of-lines-requires same-length returns)
