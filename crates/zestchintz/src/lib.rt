@@ -3,6 +3,7 @@
 ghost use mathlib.Core.Path.{_≡_};
 ghost use lib.ListN.{length};
 ghost use Rattle.job.specs.Checks.{checkJob};
+ghost use Rattle.job.specs.Reading.{Reading};
 ghost use Rattle.model.specs.Output.{checkPlain, Evaluated};
 ghost use Rattle.zestchintz.specs.Code.{refusalCode, Told, Answered, Coded};
 use job::Check;
@@ -33,6 +34,7 @@ fn code_of(job: &[u8], check: Check) -> u64
 #[no_mangle]
 pub extern "C" fn zestchintz_check(job: &[u8]) -> u64
     ensures { λ r. ⌜ Coded (now (job .entry)) (checkJob (now (job .entry))) r ⌝ }
+    ensures { λ r. ⌜ Reading ⌝ }
 {
     code_of(job, job::checks::check_job(job))
 }

@@ -19,7 +19,7 @@ code-of-requires c κs =
     subst⁻¹ (Answered s) (c .check-job .ensures .0) (job-answered s short)
 
 returns : tie.Need-returns
-returns c = coded-as (c .before .check-job .ensures .0) (c .code-of .ensures)
+returns c = (coded-as (c .before .check-job .ensures .0) (c .code-of .ensures), c .before .check-job .ensures .1)
 
 pub zestchintz-check-spec : {M : Type 1} → statement M
 zestchintz-check-spec = tie.close (tie.spec check-job-requires code-of-requires returns)
