@@ -16,4 +16,3 @@ pub mod OnTurns
 pub mod Counted
 pub mod Past
 pub mod Bounds
-pub mod Bounded
