@@ -1,6 +1,7 @@
 //! Times an older library and the built one in one process, called in turn on the
 //! same fields, and compares what they write: plain evaluation, or whole runs.
-//! For libraries that make the same turns; bench/run makes both shared ones.
+//! For libraries that make the same turns on tables of the same words; bench/run
+//! makes both shared ones.
 //!
 //! usage: beside evaluation|turns OLDER.so NEWER.so
 
@@ -12,6 +13,7 @@ mod times;
 use std::ffi::{c_char, c_int, c_void, CString};
 
 use fields::{evaluated_fields, job_of, run_fields, Field};
+use oracle::orders::Orders;
 use oracle::table::Layout;
 use times::{median_times_of, show_spread};
 
@@ -87,7 +89,7 @@ fn evaluation(older: &str, newer: &str) -> Vec<f64> {
 fn turns(older: &str, newer: &str) -> Vec<f64> {
     let (older, newer) = (runner(older), runner(newer));
     let measure = |field: Field| {
-        let used = Layout::of_job(&job_of(&field.bytes)).used;
+        let used = Layout::of_job(&job_of(&field.bytes), Orders::in_force()).used;
         let (mut expected, mut words) = (vec![0; used], vec![0; used]);
         let tallies = [older(&field, &mut expected), newer(&field, &mut words)];
         assert!(tallies[0] == tallies[1] && expected == words, "{} {}: the libraries differ", field.kind, field.seed);

@@ -40,13 +40,18 @@ struct Sampled {
     tables: [Vec<(u32, Vec<u32>)>; 8],
 }
 
+/// Turns by these orders, on tables with the words of the orders in force.
+fn turns_by(numbers: &[u32]) -> Orders {
+    Orders { newest: Orders::in_force().newest, ..Orders::of(numbers) }
+}
+
 impl Sampled {
     /// Goes through a made field's turns as they were before any order, so that
-    /// every library is lent the same tables.
+    /// every library is lent the same tables, but for third words.
     fn of(job: &Job, schedule: &[u8]) -> Sampled {
         let mut sampled = Sampled { seen: [0; 8], tables: Default::default() };
-        let mut before = Table::start(job, Orders::of(&[]), true).words;
-        run_listing(job, Orders::of(&[]), schedule, false, |table, worker, kind| {
+        let mut before = Table::start(job, turns_by(&[]), true).words;
+        run_listing(job, turns_by(&[]), schedule, false, |table, worker, kind| {
             sampled.seen[kind as usize] += 1;
             if sampled.seen[kind as usize].is_power_of_two() {
                 sampled.tables[kind as usize].push((worker, before.clone()));
@@ -72,15 +77,15 @@ impl Sampled {
 
 /// What a turn gives by the text under these orders.
 fn turn_on(job: &Job, orders: &[u32], words: &[u32], worker: u32) -> (Kind, Vec<u32>) {
-    let mut table = Table::from_words(job, Orders::of(orders), words.to_vec()).expect("turns made the table");
+    let mut table = Table::from_words(job, turns_by(orders), words.to_vec()).expect("turns made the table");
     (table.turn(worker), table.words)
 }
 
 /// A table on which a worker's turn passes the rest of a failed rule.
 fn skip_case(job: &Job, schedule: &[u8]) -> Option<Case> {
     let mut cases = Vec::new();
-    let mut before = Table::start(job, Orders::of(&[5]), true);
-    run_listing(job, Orders::of(&[5]), schedule, false, |table, worker, kind| {
+    let mut before = Table::start(job, turns_by(&[5]), true);
+    run_listing(job, turns_by(&[5]), schedule, false, |table, worker, kind| {
         if kind == Kind::Passed && cases.len() < 8 && oracle::explore::skipped(&before, table) {
             cases.push((worker, before.words.clone()));
         }

@@ -48,7 +48,7 @@ struct Row {
 /// The library's seconds alone, and how many turns changed something.
 fn print_times(field: &Field) {
     let job = job_of(&field.bytes);
-    let mut words = vec![0; Layout::of_job(&job).used];
+    let mut words = vec![0; Layout::of_job(&job, Orders::in_force()).used];
     let tally = run_ours(field, &mut words);
     let [ours] = median_times([&mut || _ = run_ours(field, &mut words)]);
     println!("{} {}\t{ours}\t{}", field.kind, field.seed, tally[1..].iter().sum::<u64>());
@@ -56,7 +56,7 @@ fn print_times(field: &Field) {
 
 fn measure(field: &Field) -> Row {
     let job = job_of(&field.bytes);
-    let mut words = vec![0; Layout::of_job(&job).used];
+    let mut words = vec![0; Layout::of_job(&job, Orders::in_force()).used];
     let tally = run_ours(field, &mut words);
     let made = words.clone();
     for by_text in [true, false] {

@@ -35,6 +35,7 @@ pub fn awaited_only_taken(table: &mut Table, worker: u32) -> Kind {
                 table.words[at] = mark;
             }
         }
+        table.put_newest_words();
     }
     kind
 }

@@ -6,8 +6,9 @@ use crate::failing::make_failing;
 use crate::jobs::{make_small, make_tiny, make_tower};
 use crate::missing_jobs::add_missing;
 use crate::model::Verdict;
-use crate::orders::Orders;
+use crate::orders::{Newest, Orders};
 use crate::table::{Table, OPENED_COUNT};
+use crate::takeover_tables::make_takeover;
 
 fn make_draft(random: &mut Random) -> Draft {
     match random.below(6) {
@@ -19,9 +20,13 @@ fn make_draft(random: &mut Random) -> Draft {
 }
 
 /// A job with the words of a table, for `oracle turn`: a table that turns made,
-/// changed in some words within their ranges, or random within them; now and
-/// then one word is damaged or the table cut short.
+/// changed in some words within their ranges, or random within them, with third
+/// words that a search finds; now and then one word is damaged or the table cut
+/// short.  Some are made for a takeover.
 pub fn make_table(random: &mut Random, seed: u64, orders: Orders) -> Vec<u8> {
+    if random.percent(8) {
+        return make_takeover(random, orders);
+    }
     let mut draft = make_draft(random);
     add_missing(&mut draft, seed, orders);
     let mut bytes = draft.job_bytes();
@@ -42,7 +47,11 @@ pub fn make_table(random: &mut Random, seed: u64, orders: Orders) -> Vec<u8> {
     if job.missing_records() > 0 {
         put_missing_false(&mut table, random);
     }
+    if random.percent(30) {
+        put_numbers(&mut table, random);
+    }
     table.words[OPENED_COUNT] = table.claims().filter(|&claim| table.mark(claim) != 0).count() as u32;
+    table.put_newest_words();
     damage_words(&mut table, random);
     bytes.extend(table.words.iter().flat_map(|word| word.to_le_bytes()));
     bytes
@@ -63,6 +72,22 @@ fn put_claim(table: &mut Table, random: &mut Random, complete: usize) {
     let record = if mark == 0 { [0, 0, 0] } else { [mark, cursor, random.within(1, claims)] };
     for (word, value) in table.words[at..].iter_mut().zip(record) {
         *word = value as u32;
+    }
+}
+
+/// Gives some open claims other opening numbers: equal ones, low ones, and such that
+/// pass the opened count by one or more.
+pub fn put_numbers(table: &mut Table, random: &mut Random) {
+    let (chance, low, claims) = (random.pick(&[5, 30, 90]), random.percent(40), table.job.claims);
+    let open: Vec<u32> = table.claims().filter(|&claim| table.owner(claim).is_some()).collect();
+    let opened = table.claims().filter(|&claim| table.mark(claim) != 0).count();
+    for &claim in &open {
+        let (at, other) = (table.claim_at(claim), table.opening(random.pick(&open)) as usize);
+        let high = [other, opened, opened + 1, opened + 2, claims, random.within(1, claims)];
+        let number = if low { random.within(1, 2) } else { random.pick(&high) };
+        if random.percent(chance) {
+            table.words[at + 2] = number.min(claims) as u32;
+        }
     }
 }
 
@@ -95,6 +120,10 @@ fn damage_words(table: &mut Table, random: &mut Random) {
             words[at] = random.pick(&[words[at] + 1, words[at].wrapping_sub(1), 33, 255, 259, 4, u32::MAX, 0]);
         }
         3 | 4 => words.extend((0..random.within(1, 5)).map(|_| random.next() as u32).collect::<Vec<u32>>()),
+        5 if table.orders.newest != Newest::Off => {
+            let worker = random.below(table.job.workers) as u32;
+            table.put_newest_word(worker, random.within(0, table.job.claims + 1) as u32);
+        }
         _ => {}
     }
 }

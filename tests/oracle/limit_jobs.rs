@@ -5,7 +5,7 @@ use crate::checks::Job;
 use crate::damage::damage;
 use crate::draft::{Draft, Random};
 use crate::large::make_large;
-use crate::lent_tables::put_missing_false;
+use crate::lent_tables::{put_missing_false, put_numbers};
 use crate::missing_jobs::add_missing;
 use crate::orders::Orders;
 use crate::table::{Table, OPENED_COUNT};
@@ -28,7 +28,8 @@ pub fn make_marred(random: &mut Random, seed: u64, orders: Orders) -> Vec<u8> {
 
 /// A large job with the words of a table that no run need have made: some turns,
 /// then many claims complete with any verdict, so that a worker's next turns soon
-/// evaluate the job with these verdicts known.
+/// evaluate the job with these verdicts known, and in half of them other opening
+/// numbers.
 pub fn make_known(random: &mut Random, seed: u64, orders: Orders) -> Vec<u8> {
     let mut bytes = make_draft(random, seed, orders).job_bytes();
     let job = Job::check(&bytes, orders).expect("a draft is accepted");
@@ -45,7 +46,11 @@ pub fn make_known(random: &mut Random, seed: u64, orders: Orders) -> Vec<u8> {
     if job.missing_records() > 0 {
         put_missing_false(&mut table, random);
     }
+    if random.percent(50) {
+        put_numbers(&mut table, random);
+    }
     table.words[OPENED_COUNT] = table.claims().filter(|&claim| table.mark(claim) != 0).count() as u32;
+    table.put_newest_words();
     bytes.extend(table.words.iter().flat_map(|word| word.to_le_bytes()));
     bytes
 }

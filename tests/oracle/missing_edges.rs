@@ -4,6 +4,7 @@ use crate::draft::{not, plain, Draft};
 use crate::edges::{with_half, with_words, Edges};
 use crate::missing::MISSING;
 use crate::order_edges::{table_of, turn_on, OrderEdge};
+use crate::orders::Orders;
 
 /// Rules of one worker's field: None is a missing record.
 type Rules<'a> = &'a [(usize, Option<&'a [u16]>)];
@@ -126,7 +127,7 @@ pub fn edges_before_missing(edges: &mut Edges) {
 
 /// Worker 0 completes claim 1, which has passed all its literals, beside claim 0
 /// of any mark, whose rules are exchanged, missing records too.
-pub fn edges_of_exchange() -> Vec<OrderEdge> {
+pub fn edges_of_exchange(orders: Orders) -> Vec<OrderEdge> {
     let negated: Rules = &[(0, None), (1, Some(&[not(0)]))];
     let fact: Rules = &[(0, Some(&[])), (0, None), (1, Some(&[not(0)]))];
     let open: Rules = &[(0, None), (1, None), (1, Some(&[plain(0)]))];
@@ -134,7 +135,7 @@ pub fn edges_of_exchange() -> Vec<OrderEdge> {
     let completed = |&(name, rules, mark, value): &(&str, Rules, u32, u32)| {
         let draft = field(2, rules, &[]);
         // Claim 1 has one literal, claim 0 none.
-        let table = |second: u32| table_of(&draft, &[(0, [mark, 0, 1]), (1, [second, 1, 2])], &[]);
+        let table = |second: u32| table_of(orders, &draft, &[(0, [mark, 0, 1]), (1, [second, 1, 2])], &[]);
         turn_on(2, name, &draft, table(1), "completed", Some(table(value)))
     };
     let cases = [

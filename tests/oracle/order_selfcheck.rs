@@ -17,7 +17,7 @@ use crate::missing_sorts::SORTS;
 use crate::order_edges::{edge_fault, order_edges};
 use crate::orders::Orders;
 use crate::promises::ensure;
-use crate::readings::{kept_at_exchange_shown, shown_by_lists, worded, wrong_readings};
+use crate::readings::{shown_by_lists, shown_by_tables, worded, wrong_readings};
 use crate::shortcuts::{check_shortcuts, Lists};
 use crate::small_fields::make_small_field;
 use crate::table::Table;
@@ -220,11 +220,12 @@ impl Checked {
         }
     }
 
-    fn exchange_told_apart(&mut self) {
-        let count = kept_at_exchange_shown(2000);
-        self.lines.push(format!("missing records kept at the exchange: shown by {count} of 2000 tables"));
-        if count == 0 {
-            self.faults.push("no table shows missing records kept at the exchange".to_string());
+    fn readings_told_apart_by_tables(&mut self) {
+        for (name, count) in shown_by_tables(2000) {
+            self.lines.push(format!("{name}: shown by {count} of 2000 tables"));
+            if count == 0 {
+                self.faults.push(format!("no table shows this wrong reading: {name}"));
+            }
         }
     }
 }
@@ -232,8 +233,8 @@ impl Checked {
 /// A slice of everything.
 pub fn check_orders() -> Checked {
     let mut checked = Checked { lines: Vec::new(), faults: Vec::new(), tables: 0 };
-    checked.turns_under(&[2, 5], 1);
-    for numbers in [&[2][..], &[5], &[]] {
+    checked.turns_under(&[2, 3, 5], 1);
+    for numbers in [&[2, 5][..], &[2], &[3], &[5], &[]] {
         checked.turns_under(numbers, 4);
     }
     checked.lines_in_other_ways();
@@ -243,7 +244,7 @@ pub fn check_orders() -> Checked {
     for kind in ["tiny", "small", "failing"] {
         checked.readings_told_apart(kind);
     }
-    checked.exchange_told_apart();
+    checked.readings_told_apart_by_tables();
     checked
 }
 

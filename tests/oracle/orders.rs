@@ -4,7 +4,7 @@ use std::sync::OnceLock;
 
 /// The orders that have landed and change what calls from before them give.  Orders
 /// 1, which adds a call, and 9, which says more of the model, don't.
-const CHANGING: [u32; 2] = [2, 5];
+const CHANGING: [u32; 3] = [2, 3, 5];
 
 /// Names other ones than these, for a library from before one of them: their
 /// numbers, commas between; 0 or nothing for none.
@@ -39,6 +39,27 @@ pub const MISREADINGS: [(&str, Missing); 4] = [
     ("a missing record is lost beside another rule", Missing::LostBesideRules),
 ];
 
+/// Order 3, and other readings of its wording that `selfcheck` shows to be
+/// wrong.
+#[derive(Clone, Copy, Debug, PartialEq, Eq)]
+pub enum Newest {
+    /// A worker has two words.
+    Off,
+    /// It has a third one, its newest open claim + 1 or 0, which is what a search
+    /// finds: highest opening number, then highest claim.
+    AsWorded,
+    /// Wrong: a takeover leaves the losers' words as they were.
+    LosersKept,
+    /// Wrong: a completion leaves the word as it was.
+    KeptAtCompletion,
+    /// Wrong: opening puts in the claim opened, although a newer one is owned.
+    LastOpened,
+    /// Wrong: of claims with equal opening numbers the lowest is the newest.
+    LowestOfEqual,
+    /// Wrong: check 10 looks at the word's range alone.
+    RangeOnly,
+}
+
 /// Order 5, and two other readings of its wording that `selfcheck` shows to be
 /// wrong.
 #[derive(Clone, Copy, Debug, PartialEq, Eq)]
@@ -57,6 +78,8 @@ pub enum Skip {
 pub struct Orders {
     /// Order 2: a missing measurement is undefined.
     pub missing: Missing,
+    /// Order 3: each worker's newest claim is kept.
+    pub newest: Newest,
     /// Order 5: a rule that has failed is read no further.
     pub skip: Skip,
 }
@@ -66,6 +89,7 @@ impl Orders {
     pub fn of(numbers: &[u32]) -> Orders {
         Orders {
             missing: if numbers.contains(&2) { Missing::AsWorded } else { Missing::Off },
+            newest: if numbers.contains(&3) { Newest::AsWorded } else { Newest::Off },
             skip: if numbers.contains(&5) { Skip::AsWorded } else { Skip::Off },
         }
     }
@@ -74,7 +98,17 @@ impl Orders {
     pub fn as_worded(self) -> Orders {
         Orders {
             missing: if self.missing == Missing::Off { Missing::Off } else { Missing::AsWorded },
+            newest: if self.newest == Newest::Off { Newest::Off } else { Newest::AsWorded },
             skip: if self.skip == Skip::Off { Skip::Off } else { Skip::AsWorded },
+        }
+    }
+
+    /// How many words of a table a worker has.
+    pub fn worker_words(self) -> usize {
+        if self.newest == Newest::Off {
+            2
+        } else {
+            3
         }
     }
 

@@ -9,7 +9,6 @@ use crate::orders::Orders;
 
 pub const OPENED_COUNT: usize = 7;
 pub const CLAIM_WORDS: usize = 3;
-pub const WORKER_WORDS: usize = 2;
 
 /// Where the table's words stand.
 #[derive(Clone, Copy)]
@@ -21,10 +20,10 @@ pub struct Layout {
 }
 
 impl Layout {
-    pub fn of_job(job: &Job) -> Layout {
+    pub fn of_job(job: &Job, orders: Orders) -> Layout {
         let claims_at = 8;
         let workers_at = claims_at + CLAIM_WORDS * job.claims;
-        let questions_at = workers_at + WORKER_WORDS * job.workers;
+        let questions_at = workers_at + orders.worker_words() * job.workers;
         Layout { claims_at, workers_at, questions_at, used: questions_at + job.questions.len() }
     }
 }
@@ -65,7 +64,7 @@ pub struct Found {
 
 impl<'a> Table<'a> {
     pub fn start(job: &'a Job, orders: Orders, by_text: bool) -> Table<'a> {
-        let layout = Layout::of_job(job);
+        let layout = Layout::of_job(job, orders);
         let mut words = vec![0; layout.used];
         let header = [
             layout.used,
@@ -129,10 +128,11 @@ impl<'a> Table<'a> {
             };
         }
         if at < layout.questions_at {
-            let worker = (at - layout.workers_at) / WORKER_WORDS;
-            return match (at - layout.workers_at) % WORKER_WORDS {
+            let worker = (at - layout.workers_at) / self.orders.worker_words();
+            return match (at - layout.workers_at) % self.orders.worker_words() {
                 0 => word <= job.claims,
-                _ => word <= job.asked[worker].len(),
+                1 => word <= job.asked[worker].len(),
+                _ => self.is_newest_word(worker as u32),
             };
         }
         word <= 3
@@ -151,7 +151,7 @@ impl<'a> Table<'a> {
     }
 
     pub fn worker_at(&self, worker: u32) -> usize {
-        self.layout.workers_at + WORKER_WORDS * worker as usize
+        self.layout.workers_at + self.orders.worker_words() * worker as usize
     }
 
     pub fn mark(&self, claim: u32) -> u32 {

@@ -64,7 +64,9 @@ impl<'a> Beside<'a> {
         let kept = std::mem::replace(&mut self.table.words[at], value);
         self.lent.table(length)[at] = value;
         let given = call.by_library(self.bytes, self.lent.table(length));
-        self.compare(call, &format!(" with word {at} at {value}"), Given::refused(refusal), given);
+        let expected = Given::refused(refusal);
+        self.totals.count_bad_word(self.table.job, &self.table.words, &expected);
+        self.compare(call, &format!(" with word {at} at {value}"), expected, given);
         self.table.words[at] = kept;
         self.lent.table(length)[at] = kept;
     }

@@ -113,7 +113,7 @@ impl Call {
             Ok(job) => job,
         };
         if let Call::Start = self {
-            let used = Layout::of_job(job).used;
+            let used = Layout::of_job(job, Orders::in_force()).used;
             if words.len() < used {
                 return Given::refused(Refusal { number: 9, place: used });
             }

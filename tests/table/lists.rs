@@ -63,7 +63,7 @@ pub fn compare_input(totals: &mut Totals, name: &str, input: &[u8], work: usize)
         Ok(job) => job,
     };
     totals.count_job(&job);
-    let used = Layout::of_job(&job).used;
+    let used = Layout::of_job(&job, Orders::in_force()).used;
     let tail = random.pick(&[0, 0, 1, 2, 5, 40]);
     let words: Vec<u32> = (0..used + tail).map(|_| random.next() as u32).collect();
     let verdicts = well_founded(&Program::of_job(&job));

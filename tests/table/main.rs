@@ -17,9 +17,11 @@ mod lists;
 mod mapped;
 mod met;
 mod missing;
+mod newest;
 mod others;
 mod single;
 mod totals;
+mod words;
 
 use std::process::exit;
 use std::time::Instant;
@@ -71,7 +73,7 @@ fn compare_made(totals: &mut Totals, kind: &str, from: u64, count: u64, work: us
     for seed in from..from + count {
         let name = format!("{kind} {seed}");
         if kind == "words" {
-            single::compare_words(totals, &name, seed);
+            words::compare_words(totals, &name, seed);
             continue;
         }
         let Some(input) = generate(kind, seed, Orders::in_force()) else {

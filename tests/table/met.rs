@@ -1,16 +1,17 @@
-//! What turns meet of failed rules and of missing records, so that the gate can
-//! tell whether each sort was met.
+//! What turns meet of failed rules, of missing records and of newest claims, so
+//! that the gate can tell whether each sort was met.
 
 use oracle::table::Table;
 use oracle::turns::Kind;
 
 use crate::counts::add;
-use crate::{failed, missing};
+use crate::{failed, missing, newest};
 
 #[derive(Clone, Default)]
 pub struct Met {
     pub failed: failed::Counts,
     pub missing: missing::Counts,
+    pub newest: newest::Counts,
 }
 
 /// On larger jobs a turn is only made.
@@ -45,11 +46,13 @@ impl Met {
         let made = Made { before: &before, after: table, worker, kind };
         failed::count(&made, &mut self.failed);
         missing::count(&made, &mut self.missing);
+        newest::count(&made, &mut self.newest);
         kind
     }
 
     pub fn add(&mut self, other: &Met) {
         add(&mut self.failed, &other.failed);
         self.missing.add(&other.missing);
+        add(&mut self.newest, &other.newest);
     }
 }

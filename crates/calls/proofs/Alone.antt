@@ -104,7 +104,7 @@ module _ (s : List ℕ) (e : Accepted ≡ checkJob s) (one : jobOf s .workers �
   zero-check : (t : List ℕ) → Made (jobOf s) t → Accepted ≡ turnCheck s t 0
   unfolding turnCheck checkTurnWorker jobOf
   zero-check t M =
-      join _ _ e (join _ _ (accepts (jobOf s) t (M .range)) (pass _ _ _ _ (notBelow-no _ _ (omega (arith, one))) refl))
+      join _ _ e (join _ _ (accepts (jobOf s) t (M .range, M .newests)) (pass _ _ _ _ (notBelow-no _ _ (omega (arith, one))) refl))
 
   zero-made : (t : List ℕ) → Made (jobOf s) t → (w : ℕ) → w < jobOf s .workers → List·Memᴰ w (made s t (turning 0))
   unfolding made unless

@@ -1,9 +1,12 @@
 -- Demands 2 and 3 on whole lists of calls, of every accepted job. Assumes nothing.
 --   as-extended   the mark that completion gives, by the job extended for its missing records
+--   row-newest, turn-accepted   which third words row 10 accepts, and that a turn leaves such
+--   turn-beyond   a turn leaves the words past those used
 --   promise s e   every clause of Promise
-use mathlib.Core.Path.{_≡_, ap}
+use mathlib.Core.Path.{_≡_, ap, subst⁻¹}
+use mathlib.Core.Logic.{_↔_}
 use mathlib.Core.List.{List}
-use Prim.Native.Nat.{ℕ, _<_}
+use Prim.Native.Nat.{ℕ, _<_, _≤_}
 use native.Mathlib.Omega.{arith}
 use Rattle.base.proofs.Span.{length-span}
 use Rattle.job.specs.Job.{Job}
@@ -16,11 +19,20 @@ use Rattle.semantics.specs.Missing.{Extension}
 use Rattle.semantics.proofs.Known.{known-past}
 use Rattle.semantics.proofs.Missing.{missing-of}
 use Rattle.semantics.proofs.Textbook.{textbook-of}
-use Rattle.table.specs.Layout.{mark, valueOf, markOf, values}
-use Rattle.turn.specs.Turn.{completedMark}
+use lib.ListN.{length, getD}
+use Rattle.table.specs.Layout.{used, mark, kept, valueOf, markOf, values}
+use Rattle.table.specs.Newest.{NewestOf, Owns}
+use Rattle.table.specs.Ranges.{checkTable, InRange}
+use Rattle.table.proofs.NewestOf.{sought-of, sought-is}
+use Rattle.table.proofs.Ranges.{ranges, accepts}
+use Rattle.turn.specs.Turn.{completedMark, turn}
+use Rattle.turn.proofs.Jobs.{JobOk, job-ok}
+use Rattle.turn.proofs.Range.{turn-in-range, turn-kept}
+use Rattle.turn.proofs.Lengths.{turn-length}
+use Rattle.steps.proofs.Past.{turn-past}
 use Rattle.calls.specs.Promise.{from, extendedMark, Promise}
 use Rattle.calls.proofs.Taken.{starts, taken}
-use Rattle.calls.proofs.OnLists.{answer-is, on-accepted, on-verdicts, on-values, on-holds, on-quiet, on-changes, on-rounds}
+use Rattle.calls.proofs.OnLists.{answer-is, on-accepted, on-verdicts, on-values, on-stays, on-holds, on-quiet, on-changes, on-rounds}
 use Rattle.calls.proofs.Named.{on-claims}
 use Rattle.calls.proofs.RulesBehind.{on-literals}
 use Rattle.calls.proofs.Opening.{on-opened}
@@ -30,6 +42,16 @@ as-extended : (j : Job) → Extension j → (t : List ℕ) (c : ℕ) → c < j .
 unfolding completedMark values
 as-extended j x t c l =
     ap markOf (x .exchanged (knownOf (values j t)) (λ d h. known-past (values j t) d (omega (arith, h, length-span (λ d. valueOf (mark t d)) 0 (j .claims)))) c l)
+
+row-newest : (j : Job) (t : List ℕ) → InRange j t → (Accepted ≡ checkTable j t) ↔ ((w : ℕ) → w < j .workers → NewestOf t (Owns (j .claims) t w) (kept j t w))
+row-newest j t r =
+    (λ a w l. subst⁻¹ (NewestOf t (Owns (j .claims) t w)) (ranges j t a .1 .is w l) (sought-of (j .claims) t w), λ f. accepts j t (r, record { is = λ w l. sought-is (j .claims) t w (f w l) }))
+
+turn-accepted : {j : Job} → JobOk j → (t : List ℕ) (w : ℕ) → w < j .workers → Accepted ≡ checkTable j t → Accepted ≡ checkTable j (turn j t w .table)
+turn-accepted {j} ok t w l a = let r = ranges j t a .0 in accepts j (turn j t w .table) (turn-in-range ok r l, turn-kept ok r l)
+
+turn-beyond : {j : Job} → JobOk j → (t : List ℕ) (w : ℕ) → w < j .workers → Accepted ≡ checkTable j t → (length (turn j t w .table) ≡ length t) × ((i : ℕ) → used j ≤ i → getD (turn j t w .table) i 0 ≡ getD t i 0)
+turn-beyond {j} ok t w l a = (turn-length j t w, turn-past j ok t (ranges j t a .0) w l)
 
 pub promise : (s : List ℕ) → Accepted ≡ checkJob s → Promise s
 promise s e =
@@ -42,6 +64,10 @@ promise s e =
       starts = λ t. starts s t e;
       taken = λ t f xs. taken s (from s t xs) e (on-accepted s e t f xs);
       accepted = λ t f xs. on-accepted s e t f xs;
+      newest = row-newest (jobOf s);
+      kept = turn-accepted (job-ok s (well-formed s e));
+      past = turn-beyond (job-ok s (well-formed s e));
+      stays = λ t f xs w c. on-stays s e t f xs w c;
       answers = on-answers s e;
       aloneAccepted = alone-accepted s e;
       aloneAnswers = alone-answers s e;

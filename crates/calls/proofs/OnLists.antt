@@ -30,6 +30,7 @@ use Rattle.turn.specs.declared.Kind.the-variants.{Idle}
 use Rattle.turn.proofs.Jobs.{JobOk, valid-ok}
 use Rattle.steps.proofs.Verdicts.{verdictIn}
 use Rattle.steps.proofs.Changes.{turn-changes}
+use Rattle.steps.proofs.Kept.{complete-stays}
 use Rattle.steps.proofs.Starting.{Started, start-started, answered-zero}
 use Rattle.steps.proofs.Runs.{Made, made-start, made-run}
 use Rattle.steps.proofs.OnTurns as P
@@ -83,7 +84,7 @@ module _ (s : List ℕ) (e : Accepted ≡ checkJob s) where
 
     -- the clauses
     pub on-accepted : Accepted ≡ checkTable (jobOf s) (from s t xs)
-    on-accepted = accepts (jobOf s) (from s t xs) (made-after .range)
+    on-accepted = accepts (jobOf s) (from s t xs) (made-after .range, made-after .newests)
 
     pub on-verdicts : (c : ℕ) → c < jobOf s .claims → Complete (from s t xs) c → readingValue (readingOf (W.mark (from s t xs) c)) ≡ byteOf (verdictIn (jobOf s) c)
     on-verdicts c h d = value-of ok made-after c h (complete-mark ok made-after c h d)
@@ -91,20 +92,23 @@ module _ (s : List ℕ) (e : Accepted ≡ checkJob s) where
     pub mark-is : (c : ℕ) → c < jobOf s .claims → Complete (from s t xs) c → W.mark (from s t xs) c ≡ W.markOf (verdictIn (jobOf s) c)
     mark-is c h d = made-after .verdicts .marks c h (complete-mark ok made-after c h d)
 
+    pub on-stays : (w c : ℕ) → w < jobOf s .workers → c < jobOf s .claims → Complete (from s t xs) c → W.mark (turn (jobOf s) (from s t xs) w .table) c ≡ W.mark (from s t xs) c
+    on-stays w c l h d = complete-stays (jobOf s) ok (from s t xs) (made-after .range) w l (made-after .verdicts) c h (complete-mark ok made-after c h d)
+
     pub on-holds : (w k : ℕ) → w < jobOf s .workers → IsAnswered (history s t xs) w k → getD (from s t xs) (W.answerWord (jobOf s) (getD (askedBy (jobOf s) w) k 0)) 0 ≡ answerOf (jobOf s) (history s t xs) w k
     on-holds w k h l = made-after .verdicts .words w k h (omega (arith, times-are w h)) ∙ sym (answer-is w k h l)
 
     idle-by : (w : ℕ) → w < jobOf s .workers → turn (jobOf s) (from s t xs) w .table ≡ from s t xs → turn (jobOf s) (from s t xs) w .kind ≡ Idle
     idle-by w h f =
         by-cases (ℕ-discrete (kindNumber (turn (jobOf s) (from s t xs) w .kind)) 0) (kind-idle (turn (jobOf s) (from s t xs) w .kind))
-        (λ n. absurd (turn-changes (jobOf s) ok (from s t xs) (made-after .range) w h .acts (λ q. n (ap kindNumber q)) f))
+        (λ n. absurd (turn-changes (jobOf s) ok (from s t xs) (made-after .range) w h (made-after .newests) .acts (λ q. n (ap kindNumber q)) f))
 
     pub on-quiet : AllAnswered (jobOf s) (history s t xs) ↔ ((w : ℕ) → w < jobOf s .workers → turn (jobOf s) (from s t xs) w .table ≡ from s t xs)
     on-quiet =
         (λ a w h. P.answered-idle (jobOf s) ok (from s t xs) made-after (all-words a) w h .1, λ f. words-all (P.idle-answered (jobOf s) ok (from s t xs) made-after (λ w h. idle-by w h (f w h))))
 
     pub on-changes : (w : ℕ) → w < jobOf s .workers → (turn (jobOf s) (from s t xs) w .kind ≡ Idle) ↔ (turn (jobOf s) (from s t xs) w .table ≡ from s t xs)
-    on-changes w h = (turn-changes (jobOf s) ok (from s t xs) (made-after .range) w h .idle, idle-by w h)
+    on-changes w h = (turn-changes (jobOf s) ok (from s t xs) (made-after .range) w h (made-after .newests) .idle, idle-by w h)
 
     pub on-rounds : Rounds (jobOf s .workers) (bound (jobOf s)) ws → AllAnswered (jobOf s) (history s t xs)
     on-rounds r =

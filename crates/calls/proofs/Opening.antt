@@ -20,7 +20,8 @@ use Rattle.job.specs.declared.Literal.{Literal}
 use Rattle.job.specs.declared.Literal.the-variants.{Plain}
 use Rattle.job.proofs.RuleEnds.{Holding, rule-holding}
 use Rattle.table.specs.Layout as W
-use Rattle.turn.specs.Turn.{Turned, litAt, failed, skipEnd, reached, completedMark, turn}
+use Rattle.table.proofs.Keeping.{with-mark}
+use Rattle.turn.specs.Turn.{Turned, litAt, failed, skipEnd, reached, completedMark, baseTurn, turn}
 use Rattle.calls.specs.Lists.{Call}
 use Rattle.calls.specs.Promise.{Fresh, from, FalseAmong, OpenedFor, question, literal}
 use Rattle.turn.proofs.Jobs.{JobOk, lits-length, valid-ok}
@@ -150,7 +151,9 @@ module _ (j : Job) (v : Valid j) (t : List ℕ) (M : Made j t) where
       case-opened r (waits {c = c} x y m f) = same (X.await-mark j (moved t c) w (K.literal j t c + 1) b h ∙ X.cursor-mark j t c (W.cursor t c + 1) b)
 
       pub turn-opened : (W.mark (turn j t w .table) b ≡ 0 → ⊥) → OpenedFor j t w b
-      turn-opened = case-opened (turn j t w) (turn-case j t w)
+      unfolding turn
+      turn-opened n =
+          case-opened (baseTurn j t w) (turn-case j t w) (λ e. n (with-mark (j .claims) (baseTurn j t w .table) (j .workers) b h ∙ e))
 
 pub on-opened : (s : List ℕ) (e : Accepted ≡ checkJob s) (t : List ℕ) (room : Fresh s t) (xs : List Call) (w b : ℕ) → w < jobOf s .workers → b < jobOf s .claims → W.mark (from s t xs) b ≡ 0 → (W.mark (turn (jobOf s) (from s t xs) w .table) b ≡ 0 → ⊥) → OpenedFor (jobOf s) (from s t xs) w b
 on-opened s e t room xs w b small h z = turn-opened (jobOf s) (valid s e) (from s t xs) (made-after s e t room xs) w small b h z

@@ -8,6 +8,7 @@ use lib.ListN.{length, getD, set, drop, replicate}
 use lib.Seq.{drop-cons, drop-length}
 use Rattle.job.specs.Format.{workers, jobOf}
 use Rattle.job.specs.Accepted.{WellFormed}
+use Rattle.table.specs.Newest.{NewestKept}
 use Rattle.table.specs.Ranges.{InRange}
 use Rattle.table.proofs.Sizes.{zeros-at}
 use Rattle.turn.specs.Turn.{kindNumber, turn, runTable, runKinds}
@@ -15,7 +16,7 @@ use Rattle.calls.specs.Calls.{counted, tally}
 use Rattle.turn.specs.Ready.{Made}
 use Rattle.turn.specs.declared.Kind.{Kind}
 use Rattle.turn.proofs.Jobs.{job-ok}
-use Rattle.turn.proofs.Range.{turn-in-range}
+use Rattle.turn.proofs.Range.{turn-in-range, turn-kept}
 use Rattle.turn.proofs.Lengths.{turn-length}
 use Rattle.calls.proofs.Tallies.{one-more}
 
@@ -23,18 +24,20 @@ use Rattle.calls.proofs.Tallies.{one-more}
 pub record Partly (s t₀ ws : List ℕ) (i : ℕ) (t counts : List ℕ) : Type 0 where
   pub within : i ≤ length ws
   pub range : InRange (jobOf s) t
+  pub newests : NewestKept (jobOf s) t
   pub long : length t ≡ length t₀
   pub tables : runTable (jobOf s) t₀ ws ≡ runTable (jobOf s) t (drop i ws)
   pub tallies : tally (runKinds (jobOf s) t₀ ws) ≡ counted counts (runKinds (jobOf s) t (drop i ws))
   pub small : (k : ℕ) → getD counts k 0 ≤ i
 
 module _ (s t₀ ws : List ℕ) where
-  pub partly-none : InRange (jobOf s) t₀ → {counts : List ℕ} → counts ≡ replicate 8 0 → Partly s t₀ ws 0 t₀ counts
+  pub partly-none : InRange (jobOf s) t₀ → NewestKept (jobOf s) t₀ → {counts : List ℕ} → counts ≡ replicate 8 0 → Partly s t₀ ws 0 t₀ counts
   unfolding tally
-  partly-none r {counts} e =
+  partly-none r k {counts} e =
       record {
         within = omega arith;
         range = r;
+        newests = k;
         long = refl;
         tables = refl;
         tallies = ap (λ (x : List ℕ). counted x (runKinds (jobOf s) t₀ ws)) (sym e);
@@ -51,6 +54,7 @@ module _ (s t₀ ws : List ℕ) where
         record {
           within = omega arith;
           range = rw (made .tableIs) (turn-in-range (job-ok s good) (p .range) low);
+          newests = rw (made .tableIs) (turn-kept (job-ok s good) (p .range) low);
           long = ap length (made .tableIs) ∙ (turn-length _ _ _ ∙ p .long);
           tables = p .tables ∙ (ap (runTable (jobOf s) t) first ∙ ap (λ (x : List ℕ). runTable (jobOf s) x (drop (i + 1) ws)) (sym (made .tableIs)));
           tallies = p .tallies ∙ (ap (λ (x : List ℕ). counted counts (runKinds (jobOf s) t x)) first ∙ (ap₂ (λ (k : Kind) (x : List ℕ). counted (set counts (kindNumber k) (getD counts (kindNumber k) 0 + 1)) (runKinds (jobOf s) x (drop (i + 1) ws))) (sym (made .kindIs)) (sym (made .tableIs)) ∙ ap (λ (x : List ℕ). counted x (runKinds (jobOf s) u (drop (i + 1) ws))) (sym count)));

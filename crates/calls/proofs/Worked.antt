@@ -6,6 +6,7 @@ use Rattle.base.specs.Choose.{pick}
 use Rattle.base.specs.Compare.{under, over, notBelow, differs}
 use Rattle.base.specs.Sets.{one, count}
 use Rattle.base.specs.Span.{span}
+use Rattle.base.specs.Lists.{keep}
 use Rattle.job.specs.Job.{bodyCount, literalsOf}
 use Rattle.job.specs.Bytes.{word, half}
 use Rattle.job.specs.Format.{jobOf, ruleAt, bodyLengthAt, missingAt, headBefore, bodyStart, literalOf}
@@ -17,6 +18,7 @@ use Rattle.job.specs.declared.Check.the-variants.{Accepted}
 use Rattle.semantics.proofs.Fields.{mapped-at}
 use Rattle.table.specs.Questions.{positionsOf, askedBy}
 use Rattle.table.specs.Layout.{header}
+use Rattle.table.specs.Newest.{isNewer, newer, newest}
 use Rattle.table.specs.Start.{startWords}
 use Rattle.table.specs.Ranges.{each, checkRoom, marked, checkClaim, checkWorker, checkWords, checkTable}
 use Rattle.turn.specs.Turn.{runTable, runKinds}
@@ -28,7 +30,7 @@ use Rattle.calls.specs.declared.RunAnswer.{RunAnswer}
 use Rattle.calls.proofs.Answering.{ran-answer}
 
 cases-accepted : map (λ c. runCheck (encode (c .job)) (c .before) (c .schedule)) cases ≡ map (λ c. Accepted) cases
-unfolding runCheck checkSchedule checkTable checkRoom checkWords checkWorker checkClaim marked each count one checkJob checkHeader checkParts checkLength checkTotal checkCounts checkOffsets checkHeads checkBodies checkLiterals checkQuestions _⨾_ row scan under over notBelow differs encode headerBytes lengthOf bodyCount word half bodyLengthAt missingAt headBefore bodyStart literalOf literalsOf positionsOf askedBy startWords header jobOf ruleAt span flatMap pick
+unfolding runCheck checkSchedule checkTable checkRoom checkWords checkWorker checkClaim marked each count one checkJob checkHeader checkParts checkLength checkTotal checkCounts checkOffsets checkHeads checkBodies checkLiterals checkQuestions _⨾_ row scan under over notBelow differs encode headerBytes lengthOf bodyCount word half bodyLengthAt missingAt headBefore bodyStart literalOf literalsOf positionsOf askedBy newest newer isNewer keep startWords header jobOf ruleAt span flatMap pick
 cases-accepted = refl
 
 pub casesRight : CasesRight

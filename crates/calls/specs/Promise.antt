@@ -27,8 +27,9 @@ use Rattle.semantics.specs.Missing.{extended, asWritten, MissingRecords}
 use Rattle.semantics.specs.Leads.{LeadsTo}
 use Rattle.semantics.specs.Textbook.{Textbook}
 use Rattle.table.specs.Questions.{askedBy, questionClaim}
-use Rattle.table.specs.Layout.{used, mark, answered, answerWord, markOf, values}
-use Rattle.table.specs.Ranges.{checkTable}
+use Rattle.table.specs.Layout.{used, mark, answered, kept, answerWord, markOf, values}
+use Rattle.table.specs.Newest.{NewestOf, Owns}
+use Rattle.table.specs.Ranges.{checkTable, InRange}
 use Rattle.table.specs.Start.{startWords}
 use Rattle.table.specs.Reading.{readingOf, readingValue}
 use Rattle.waiting.specs.Runs.{Rounds}
@@ -112,6 +113,23 @@ pub record Promise (s : List ℕ) : Type 0 where
   pub taken : (t : List ℕ) → Fresh s t → (xs : List Call) → Taken s (from s t xs)
   -- for the table is as rows 9 and 10 want it
   pub accepted : (t : List ℕ) → Fresh s t → (xs : List Call) → Accepted ≡ checkTable (jobOf s) (from s t xs)
+  -- (02, order 3) "10 also covers a third word that isn't what a search finds": of the tables in range, also those that no run made, it accepts
+  -- those in which each worker's third word is its newest open claim + 1, or 0
+  pub newest :
+      (t : List ℕ) → InRange (jobOf s) t
+      → (Accepted ≡ checkTable (jobOf s) t)
+      ↔ ((w : ℕ) → w < jobOf s .workers → NewestOf t (Owns (jobOf s .claims) t w) (kept (jobOf s) t w))
+  -- "Opening, takeover and completion keep it right for every worker touched, losers included.": on all of them
+  pub kept :
+      (t : List ℕ) (w : ℕ) → w < jobOf s .workers → Accepted ≡ checkTable (jobOf s) t → Accepted ≡ checkTable (jobOf s) (turn (jobOf s) t w .table)
+  -- "Words past those used never change.": in no turn, on none of these tables
+  pub past :
+      (t : List ℕ) (w : ℕ) → w < jobOf s .workers → Accepted ≡ checkTable (jobOf s) t
+      → (length (turn (jobOf s) t w .table) ≡ length t) × ((i : ℕ) → used (jobOf s) ≤ i → getD (turn (jobOf s) t w .table) i 0 ≡ getD t i 0)
+  -- a complete claim keeps its value in every further turn
+  pub stays :
+      (t : List ℕ) → Fresh s t → (xs : List Call) (w c : ℕ) → w < jobOf s .workers → c < jobOf s .claims → Complete (from s t xs) c
+      → mark (turn (jobOf s) (from s t xs) w .table) c ≡ mark (from s t xs) c
   -- "each answered question has the answer that one worker asking everything in sequence gets", by the question's position in the file
   pub answers :
       (t u : List ℕ) → Fresh s t → Fresh (encode (alone (jobOf s))) u → (xs : List Call) (w k : ℕ) → w < jobOf s .workers → k < length (askedBy (jobOf s) w)

@@ -7,6 +7,7 @@ ghost use Rattle.job.specs.Format.{jobOf};
 ghost use Rattle.job.specs.Checks.{checkJob};
 ghost use Rattle.job.specs.Accepted.{WellFormed};
 ghost use Rattle.job.specs.Claims.{Index};
+ghost use Rattle.table.specs.Questions.{Counted};
 ghost use Rattle.table.specs.Ranges.{checkTable};
 ghost use Rattle.calls.specs.Calls.{startCheck, startTable, checkTurnWorker, turnCheck, turnAnswer, turnTable, checkSchedule, runCheck, runAnswer, runLeft, Ran, checkClaimRead, readCheck, readAnswer};
 ghost use Rattle.calls.specs.Promise.{Promise};
@@ -18,8 +19,10 @@ pub mod tally;
 
 use job::Check;
 use job::ClaimIndex;
+use job::checks::MOST_WORKERS;
 use job::claims;
 use job::format;
+use table::questions;
 use table::words;
 use turn::Kind;
 
@@ -59,13 +62,19 @@ pub fn start(job: &[u8], table: &mut [u32]) -> Check
     Check::Accepted
 }
 
-// A turn on an accepted job, whose index of claims is lent: rows 9 to 11.
-fn turn_accepted(job: &[u8], index: &ClaimIndex, table: &mut [u32], worker: usize) -> TurnAnswer
-    requires { ⌜ WellFormed (now job) × Index (now job) (now index) ⌝ }
+// A turn on an accepted job, whose index of claims and counts of questions are lent: rows 9 to 11.
+fn turn_accepted(
+    job: &[u8],
+    index: &ClaimIndex,
+    counts: &[u32; MOST_WORKERS],
+    table: &mut [u32],
+    worker: usize,
+) -> TurnAnswer
+    requires { ⌜ WellFormed (now job) × Index (now job) (now index) × Counted (jobOf (now job)) (now counts) ⌝ }
     ensures { λ r. ⌜ r ≡ turnAnswer (checkTable (jobOf (now (job .entry))) (now (table .entry)) ⨾ checkTurnWorker (now (job .entry)) worker) (now (job .entry)) (now (table .entry)) worker ⌝ }
     ensures { λ r. ⌜ now (table .exit) ≡ turnTable (checkTable (jobOf (now (job .entry))) (now (table .entry)) ⨾ checkTurnWorker (now (job .entry)) worker) (now (job .entry)) (now (table .entry)) worker ⌝ }
 {
-    match table::checks::check_table(job, index, table) {
+    match table::checks::check_table(job, index, counts, table) {
         Check::Refused { number, place } => TurnAnswer::Refused { number, place },
         Check::Accepted => {
             if format::worker_count(job) <= worker {
@@ -74,7 +83,8 @@ fn turn_accepted(job: &[u8], index: &ClaimIndex, table: &mut [u32], worker: usiz
                     place: 0,
                 };
             }
-            TurnAnswer::Made(turn::take_turn(job, index, table, worker))
+            let asked = questions::index_questions(job, counts);
+            TurnAnswer::Made(turn::take_turn(job, index, &asked, table, worker))
         }
     }
 }
@@ -88,14 +98,21 @@ pub fn turn(job: &[u8], table: &mut [u32], worker: usize) -> TurnAnswer
         Check::Refused { number, place } => TurnAnswer::Refused { number, place },
         Check::Accepted => {
             let index = claims::index_claims(job);
-            turn_accepted(job, &index, table, worker)
+            let counts = questions::count_questions(job);
+            turn_accepted(job, &index, &counts, table, worker)
         }
     }
 }
 
 // A run on an accepted job and a table in range, whose schedule is checked: row 11.
-fn run_in_range(job: &[u8], index: &ClaimIndex, table: &mut [u32], schedule: &[u8]) -> RunAnswer
-    requires { ⌜ Ready (now job) (now index) (now table) ⌝ }
+fn run_in_range(
+    job: &[u8],
+    index: &ClaimIndex,
+    counts: &[u32; MOST_WORKERS],
+    table: &mut [u32],
+    schedule: &[u8],
+) -> RunAnswer
+    requires { ⌜ Ready (now job) (now index) (now table) × Counted (jobOf (now job)) (now counts) ⌝ }
     ensures { λ r. ⌜ Ran (checkSchedule (now (job .entry)) (now (schedule .entry))) (now (job .entry)) (now (table .entry)) (now (schedule .entry)) r (now (table .exit)) ⌝ }
 {
     let check = schedule::check_schedule(job, schedule);
@@ -105,25 +122,32 @@ fn run_in_range(job: &[u8], index: &ClaimIndex, table: &mut [u32], schedule: &[u
             tally: tally::no_turns(),
         };
     };
+    let asked = questions::index_questions(job, counts);
     RunAnswer {
         check: Check::Accepted,
-        tally: schedule::run_turns(job, index, table, schedule),
+        tally: schedule::run_turns(job, index, &asked, table, schedule),
     }
 }
 
-// A run on an accepted job, whose index of claims is lent: rows 9 to 11.
-fn run_accepted(job: &[u8], index: &ClaimIndex, table: &mut [u32], schedule: &[u8]) -> RunAnswer
-    requires { ⌜ WellFormed (now job) × Index (now job) (now index) ⌝ }
+// A run on an accepted job, whose index of claims and counts of questions are lent: rows 9 to 11.
+fn run_accepted(
+    job: &[u8],
+    index: &ClaimIndex,
+    counts: &[u32; MOST_WORKERS],
+    table: &mut [u32],
+    schedule: &[u8],
+) -> RunAnswer
+    requires { ⌜ WellFormed (now job) × Index (now job) (now index) × Counted (jobOf (now job)) (now counts) ⌝ }
     ensures { λ r. ⌜ Ran (checkTable (jobOf (now (job .entry))) (now (table .entry)) ⨾ checkSchedule (now (job .entry)) (now (schedule .entry))) (now (job .entry)) (now (table .entry)) (now (schedule .entry)) r (now (table .exit)) ⌝ }
 {
-    let check = table::checks::check_table(job, index, table);
+    let check = table::checks::check_table(job, index, counts, table);
     let Check::Accepted = check else {
         return RunAnswer {
             check,
             tally: tally::no_turns(),
         };
     };
-    run_in_range(job, index, table, schedule)
+    run_in_range(job, index, counts, table, schedule)
 }
 
 // A run: the turns that the schedule names, a byte a turn. Rows 1 to 11.
@@ -140,15 +164,22 @@ pub fn run(job: &[u8], table: &mut [u32], schedule: &[u8]) -> RunAnswer
         };
     };
     let index = claims::index_claims(job);
-    run_accepted(job, &index, table, schedule)
+    let counts = questions::count_questions(job);
+    run_accepted(job, &index, &counts, table, schedule)
 }
 
-// Reads a claim of an accepted job, whose index of claims is lent: rows 9, 10 and 12.
-fn read_accepted(job: &[u8], index: &ClaimIndex, table: &[u32], claim: usize) -> ReadAnswer
-    requires { ⌜ WellFormed (now job) × Index (now job) (now index) ⌝ }
+// Reads a claim of an accepted job, whose index of claims and counts of questions are lent: rows 9, 10 and 12.
+fn read_accepted(
+    job: &[u8],
+    index: &ClaimIndex,
+    counts: &[u32; MOST_WORKERS],
+    table: &[u32],
+    claim: usize,
+) -> ReadAnswer
+    requires { ⌜ WellFormed (now job) × Index (now job) (now index) × Counted (jobOf (now job)) (now counts) ⌝ }
     ensures { λ r. ⌜ r ≡ readAnswer (checkTable (jobOf (now (job .entry))) (now (table .entry)) ⨾ checkClaimRead (now (job .entry)) claim) (now (table .entry)) claim ⌝ }
 {
-    match table::checks::check_table(job, index, table) {
+    match table::checks::check_table(job, index, counts, table) {
         Check::Refused { number, place } => ReadAnswer::Refused { number, place },
         Check::Accepted => {
             if format::claim_count(job) <= claim {
@@ -170,7 +201,8 @@ pub fn read(job: &[u8], table: &[u32], claim: usize) -> ReadAnswer
         Check::Refused { number, place } => ReadAnswer::Refused { number, place },
         Check::Accepted => {
             let index = claims::index_claims(job);
-            read_accepted(job, &index, table, claim)
+            let counts = questions::count_questions(job);
+            read_accepted(job, &index, &counts, table, claim)
         }
     }
 }

@@ -5,6 +5,7 @@ ghost use Prim.Native.Nat.{ℕ, _<_};
 ghost use lib.ListN.{length, getD};
 ghost use Rattle.job.specs.Accepted.{WellFormed};
 ghost use Rattle.job.specs.Format.{workers as workersOf, jobOf};
+ghost use Rattle.table.specs.Questions.{Listed};
 ghost use Rattle.turn.specs.Turn.{runTable, runKinds};
 ghost use Rattle.calls.specs.Calls.{checkSchedule, tally as tallyOf};
 ghost use Rattle.turn.specs.Ready.{Ready};
@@ -13,17 +14,25 @@ use base::wide;
 use job::Check;
 use job::ClaimIndex;
 use job::format;
+use table::QuestionIndex;
 
 // The turns that the schedule names, and their tally.
-pub fn run_turns(job: &[u8], index: &ClaimIndex, table: &mut [u32], schedule: &[u8]) -> [u64; 8]
+pub fn run_turns(
+    job: &[u8],
+    index: &ClaimIndex,
+    asked: &QuestionIndex,
+    table: &mut [u32],
+    schedule: &[u8],
+) -> [u64; 8]
     requires { ⌜ Ready (now job) (now index) (now table) ⌝ }
+    requires { ⌜ Listed (jobOf (now job)) (now asked) ⌝ }
     requires { ⌜ ((i : ℕ) → i < length (now schedule) → getD (now schedule) i 0 < workersOf (now job)) ⌝ }
     ensures { λ r. ⌜ r ≡ tallyOf (runKinds (jobOf (now (job .entry))) (now (table .entry)) (now (schedule .entry))) ⌝ }
     ensures { λ r. ⌜ now (table .exit) ≡ runTable (jobOf (now (job .entry))) (now (table .entry)) (now (schedule .entry)) ⌝ }
 {
     let mut counts = tally::no_turns();
     for i in 0..schedule.len() {
-        let kind = turn::take_turn(job, index, table, wide::byte(schedule[i]));
+        let kind = turn::take_turn(job, index, asked, table, wide::byte(schedule[i]));
         let next = tally::counted(counts, kind);
         counts = next;
     }

@@ -22,6 +22,7 @@ use Rattle.job.proofs.Written.{literals-count, questions-count}
 use Rattle.job.specs.Accepted.{WellFormed}
 use Rattle.table.specs.Questions.{askedBy}
 use Rattle.table.specs.Layout.{answered}
+use Rattle.table.specs.Newest.{NewestKept}
 use Rattle.table.specs.Ranges.{InRange}
 use Rattle.turn.specs.Turn.{kindNumber, turn, runTable, runKinds}
 use Rattle.calls.specs.Calls.{counted}
@@ -29,7 +30,7 @@ use Rattle.turn.specs.Ready.{Made}
 use Rattle.calls.specs.Promise.{bound}
 use Rattle.turn.specs.declared.Kind.{Kind}
 use Rattle.turn.proofs.Jobs.{job-ok}
-use Rattle.turn.proofs.Range.{turn-in-range}
+use Rattle.turn.proofs.Range.{turn-in-range, turn-kept}
 use Rattle.turn.proofs.Lengths.{turn-length}
 use Rattle.calls.proofs.Tallies.{one-more}
 use Rattle.listing.specs.Finish.{answeredAll, nextWorker, finishTurns, most}
@@ -103,6 +104,7 @@ finishing s t = finishTurns (most (jobOf s)) (jobOf s) t 0
 
 pub record Going (s t₀ counts₀ : List ℕ) (left w : ℕ) (t counts : List ℕ) : Type 0 where
   pub range : InRange (jobOf s) t
+  pub newests : NewestKept (jobOf s) t
   pub long : length t ≡ length t₀
   pub low : w < workers s
   pub small : (k : ℕ) → getD counts k 0 + left < 8589934592
@@ -110,10 +112,11 @@ pub record Going (s t₀ counts₀ : List ℕ) (left w : ℕ) (t counts : List �
   pub tallies : counted counts₀ (runKinds (jobOf s) t₀ (finishing s t₀)) ≡ counted counts (runKinds (jobOf s) t (finishTurns left (jobOf s) t w))
 
 module _ (s t₀ counts₀ : List ℕ) (good : WellFormed s) where
-  pub going-start : InRange (jobOf s) t₀ → ((k : ℕ) → getD counts₀ k 0 < 4294967296) → {left : ℕ} → left ≡ most (jobOf s) → left < 4294967296 → Going s t₀ counts₀ left 0 t₀ counts₀
-  going-start r few e l =
+  pub going-start : InRange (jobOf s) t₀ → NewestKept (jobOf s) t₀ → ((k : ℕ) → getD counts₀ k 0 < 4294967296) → {left : ℕ} → left ≡ most (jobOf s) → left < 4294967296 → Going s t₀ counts₀ left 0 t₀ counts₀
+  going-start r h few e l =
       record {
         range = r;
+        newests = h;
         long = refl;
         low = omega (arith, good .sized .workersLeast);
         small = λ k. omega (arith, few k);
@@ -143,6 +146,7 @@ module _ (s t₀ counts₀ : List ℕ) (good : WellFormed s) where
       going-on =
           record {
             range = rw (made .tableIs) (turn-in-range (job-ok s good) (p .range) (p .low));
+            newests = rw (made .tableIs) (turn-kept (job-ok s good) (p .range) (p .low));
             long = ap length (made .tableIs) ∙ (turn-length _ _ _ ∙ p .long);
             low = after .1;
             small = λ k. rw count (omega (arith, one-more counts (kindNumber kind) k, p .small k));

@@ -12,13 +12,14 @@ use Rattle.job.specs.Job.{Job}
 use Rattle.job.specs.Accepted.{WellFormed}
 use Rattle.job.specs.Format.{workers, jobOf}
 use Rattle.table.specs.Layout.{used}
+use Rattle.table.specs.Newest.{NewestKept}
 use Rattle.table.specs.Ranges.{InRange}
 use Rattle.table.specs.Start.{startWords}
 use Rattle.turn.specs.Turn.{kindNumber, turn, runTable, runKinds}
 use Rattle.turn.specs.declared.Kind.{Kind}
 use Rattle.calls.specs.Calls.{counted, tally}
 use Rattle.turn.proofs.Jobs.{job-ok}
-use Rattle.steps.proofs.Starting.{start-started, started-range}
+use Rattle.steps.proofs.Starting.{start-started, started-range, started-newests}
 use Rattle.steps.proofs.Runs.{Low, made-start, made-run}
 use Rattle.calls.proofs.Histories.{run-append, kinds-append, low-all}
 use Rattle.calls.proofs.Tallies.{tally-append, tally-few}
@@ -31,17 +32,20 @@ kinds-length j [] t = refl
 kinds-length j (w ∷ ws) t = omega (arith, kinds-length j ws (turn j t w .table))
 
 module _ (s t : List ℕ) (good : WellFormed s) (room : used (jobOf s) ≤ length t) where
-  pub start-ready : {u : List ℕ} → u ≡ startWords (jobOf s) t → InRange (jobOf s) u
-  start-ready e = subst (InRange (jobOf s)) (sym e) (started-range (start-started (jobOf s) t room))
+  pub start-ready : {u : List ℕ} → u ≡ startWords (jobOf s) t → InRange (jobOf s) u × NewestKept (jobOf s) u
+  start-ready {u} e =
+      let a = start-started (jobOf s) t room in
+      (subst (InRange (jobOf s)) (sym e) (started-range a), subst (NewestKept (jobOf s)) (sym e) (started-newests a))
 
   pub play-ready :
       (ws : List ℕ) → ((i : ℕ) → i < length ws → getD ws i 0 < workers s) → {u v : List ℕ} → u ≡ startWords (jobOf s) t
-      → v ≡ runTable (jobOf s) u ws → InRange (jobOf s) v
+      → v ≡ runTable (jobOf s) u ws → InRange (jobOf s) v × NewestKept (jobOf s) v
   unfolding jobOf
   play-ready ws low e q =
       let l : Low (jobOf s) ws = low-all (jobOf s) ws low in
       let m = made-run (jobOf s) (job-ok s good) ws (startWords (jobOf s) t) (made-start (start-started (jobOf s) t room)) l in
-      subst (InRange (jobOf s)) (sym (q ∙ ap (λ (x : List ℕ). runTable (jobOf s) x ws) e)) (m .range)
+      let z = sym (q ∙ ap (λ (x : List ℕ). runTable (jobOf s) x ws) e) in
+      (subst (InRange (jobOf s)) z (m .range), subst (NewestKept (jobOf s)) z (m .newests))
 
 pub few-counts :
     (j : Job) (ws u : List ℕ) {counts : List ℕ} → counts ≡ tally (runKinds j u ws) → length ws ≤ 65536 → (k : ℕ) → getD counts k 0 < 4294967296

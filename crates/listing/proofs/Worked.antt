@@ -16,14 +16,15 @@ use Rattle.job.specs.Encoding.{encode, headerBytes, lengthOf}
 use Rattle.semantics.specs.Model.{program, heads, step, D, stage, K, U, verdict, verdictOf, knownOf}
 use Rattle.table.specs.Questions.{positionsOf, askedBy, claimAsked, questionClaim}
 use Rattle.table.specs.Layout.{header, values}
+use Rattle.table.specs.Newest.{isNewer, newer, newest, withNewest}
 use Rattle.table.specs.Start.{startWords}
 use Rattle.table.specs.Reading.{readingOf}
-use Rattle.turn.specs.Turn.{lits, litAt, failed, clear, leads, anyLeads, spread, spreads, reached, newest, allPassed, completedMark, openClaim, markAll, meets, askTurn, passTurn, workTurn, turn, runTable, runKinds}
+use Rattle.turn.specs.Turn.{lits, litAt, failed, clear, leads, anyLeads, spread, spreads, reached, allPassed, completedMark, openClaim, markAll, meets, askTurn, passTurn, workTurn, baseTurn, turn, runTable, runKinds}
 use Rattle.calls.specs.Calls.{checkSchedule, counted, tally}
 use Rattle.listing.specs.Finish.{answeredAll, nextWorker, finishTurns}
 use Rattle.listing.specs.Listing.{jobEnd, listingCheck, questionLines, textOf, played, lastTable, listed, listingIf, listing}
 use Rattle.listing.specs.Worked.{ListingsRight}
 
 pub listingsRight : ListingsRight
-unfolding listing listingIf listed lastTable played textOf questionLines listingCheck jobEnd finishTurns nextWorker answeredAll tally counted checkSchedule runTable runKinds turn workTurn passTurn askTurn meets markAll openClaim completedMark allPassed newest reached spreads spread anyLeads leads clear failed ruleEnd litAt lits readingOf startWords values header questionClaim claimAsked askedBy positionsOf knownOf verdictOf verdict U K stage D step heads program literalsOf checkJob checkHeader checkParts checkLength checkTotal checkCounts checkOffsets checkHeads checkBodies checkLiterals checkQuestions _⨾_ row scan under over notBelow differs encode headerBytes lengthOf bodyCount word half bodyLengthAt missingAt headBefore bodyStart literalOf jobOf ruleAt decimal decimalIn isIn every keep iterate span flatMap pick
+unfolding listing listingIf listed lastTable played textOf questionLines listingCheck jobEnd finishTurns nextWorker answeredAll tally counted checkSchedule runTable runKinds turn baseTurn workTurn passTurn askTurn meets markAll openClaim completedMark allPassed withNewest newest newer isNewer reached spreads spread anyLeads leads clear failed ruleEnd litAt lits readingOf startWords values header questionClaim claimAsked askedBy positionsOf knownOf verdictOf verdict U K stage D step heads program literalsOf checkJob checkHeader checkParts checkLength checkTotal checkCounts checkOffsets checkHeads checkBodies checkLiterals checkQuestions _⨾_ row scan under over notBelow differs encode headerBytes lengthOf bodyCount word half bodyLengthAt missingAt headBefore bodyStart literalOf jobOf ruleAt decimal decimalIn isIn every keep iterate span flatMap pick
 listingsRight = record { example = refl; cut = refl }

@@ -6,31 +6,30 @@ ghost use lib.ListN.{getD};
 ghost use Rattle.job.specs.Accepted.{WellFormed};
 ghost use Rattle.base.specs.Number.{Number};
 ghost use Rattle.job.specs.Format.{workers as workersOf, jobOf};
-ghost use Rattle.table.specs.Questions.{Counted};
+ghost use Rattle.table.specs.Questions.{Listed};
 ghost use Rattle.table.specs.Ranges.{InRange};
 ghost use Rattle.turn.specs.Turn.{runTable, runKinds};
 ghost use Rattle.calls.specs.Calls.{counted as countedOf};
 ghost use Rattle.turn.specs.Ready.{Ready};
 ghost use Rattle.listing.specs.Finish.{answeredAll, nextWorker, finishTurns, most};
-use base::wide;
 use calls::tally;
 use job::ClaimIndex;
-use job::checks::MOST_WORKERS;
 use job::format;
-use table::checks;
+use table::QuestionIndex;
+use table::questions;
 use table::words;
 
 // Whether each worker has answered all its questions.
-fn all_answered(job: &[u8], totals: &[u32; MOST_WORKERS], table: &[u32]) -> bool
+fn all_answered(job: &[u8], asked: &QuestionIndex, table: &[u32]) -> bool
     requires { ⌜ WellFormed (now job) ⌝ }
     requires { ⌜ InRange (jobOf (now job)) (now table) ⌝ }
-    requires { ⌜ Counted (jobOf (now job)) (now totals) ⌝ }
+    requires { ⌜ Listed (jobOf (now job)) (now asked) ⌝ }
     ensures { λ r. ⌜ r ≡ answeredAll (jobOf (now (job .entry))) (now (table .entry)) ⌝ }
 {
     let claims = format::claim_count(job);
     let workers = format::worker_count(job);
     for w in 0..workers {
-        if words::answered_at(table, claims, w) < wide::word(totals[w]) {
+        if words::answered_at(table, claims, w) < questions::asked_count(asked, w) {
             return false;
         }
     }
@@ -61,21 +60,27 @@ fn most_turns(job: &[u8]) -> usize
 }
 
 // The turns that answer what is left, counted onto the tally.
-pub fn finish(job: &[u8], index: &ClaimIndex, table: &mut [u32], counts: [u64; 8]) -> [u64; 8]
+pub fn finish(
+    job: &[u8],
+    index: &ClaimIndex,
+    asked: &QuestionIndex,
+    table: &mut [u32],
+    counts: [u64; 8],
+) -> [u64; 8]
     requires { ⌜ Ready (now job) (now index) (now table) ⌝ }
+    requires { ⌜ Listed (jobOf (now job)) (now asked) ⌝ }
     requires { ⌜ ((k : ℕ) → getD counts k 0 < 4294967296) ⌝ }
     ensures { λ r. ⌜ r ≡ countedOf counts (runKinds (jobOf (now (job .entry))) (now (table .entry)) (finishTurns (most (jobOf (now (job .entry)))) (jobOf (now (job .entry))) (now (table .entry)) 0)) ⌝ }
     ensures { λ r. ⌜ now (table .exit) ≡ runTable (jobOf (now (job .entry))) (now (table .entry)) (finishTurns (most (jobOf (now (job .entry)))) (jobOf (now (job .entry))) (now (table .entry)) 0) ⌝ }
 {
-    let totals = checks::count_questions(job);
     let mut left = most_turns(job);
     let mut so_far = counts;
     let mut w: usize = 0;
     while 0 < left {
-        if all_answered(job, &totals, table) {
+        if all_answered(job, asked, table) {
             return so_far;
         }
-        let kind = turn::take_turn(job, index, table, w);
+        let kind = turn::take_turn(job, index, asked, table, w);
         let next = tally::counted(so_far, kind);
         so_far = next;
         w = next_worker(job, w);

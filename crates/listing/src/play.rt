@@ -12,6 +12,7 @@ ghost use Rattle.listing.specs.Listing.{mostInput, played};
 use crate::finish;
 use calls::schedule;
 use job::claims;
+use table::questions;
 use table::start;
 
 // Starts the table, takes the turns, and gives their tally.
@@ -24,7 +25,9 @@ pub fn play(job: &[u8], named: &[u8], table: &mut [u32]) -> [u64; 8]
     ensures { λ r. ⌜ now (table .exit) ≡ runTable (jobOf (now (job .entry))) (startWords (jobOf (now (job .entry))) (now (table .entry))) (played (jobOf (now (job .entry))) (startWords (jobOf (now (job .entry))) (now (table .entry))) (now (named .entry))) ⌝ }
 {
     let index = claims::index_claims(job);
+    let counts = questions::count_questions(job);
+    let asked = questions::index_questions(job, &counts);
     start::write_start(job, table);
-    let counts = schedule::run_turns(job, &index, table, named);
-    finish::finish(job, &index, table, counts)
+    let tally = schedule::run_turns(job, &index, &asked, table, named);
+    finish::finish(job, &index, &asked, table, tally)
 }

@@ -7,8 +7,10 @@ use native.Mathlib.Omega.{arith}
 use lib.ListN.{getD, set, length-set}
 use Rattle.job.specs.Job.{Job}
 use Rattle.table.specs.Layout as W
+use Rattle.table.specs.Newest.{withNewest, NewestKept}
 use Rattle.table.specs.Ranges.{InRange}
-use Rattle.turn.specs.Turn.{kindNumber, Turned, reached, completedMark, markAll, turn, skipEnd}
+use Rattle.table.proofs.Keeping.{with-other, with-same}
+use Rattle.turn.specs.Turn.{kindNumber, Turned, reached, completedMark, markAll, baseTurn, turn, skipEnd}
 use Rattle.turn.specs.declared.Kind.{Kind}
 use Rattle.turn.specs.declared.Kind.the-variants.{Idle}
 use Rattle.turn.proofs.Jobs.{JobOk, lits-length}
@@ -23,17 +25,23 @@ pub record Changes (j : Job) (t : List ℕ) (w : ℕ) : Type 0 where
   pub idle : turn j t w .kind ≡ Idle → turn j t w .table ≡ t
   pub acts : (turn j t w .kind ≡ Idle → ⊥) → turn j t w .table ≡ t → ⊥
 
-record Result (t : List ℕ) (r : Turned) : Type 0 where
+-- a word that isn't a third one, and has changed
+record Differs (j : Job) (t t′ : List ℕ) : Type 0 where
+  word : ℕ
+  other : (w : ℕ) → w < j .workers → word ≡ W.newestWord j w → ⊥
+  differs : getD t′ word 0 ≡ getD t word 0 → ⊥
+
+record Result (j : Job) (t : List ℕ) (r : Turned) : Type 0 where
   still : r .kind ≡ Idle → r .table ≡ t
-  moves : (r .kind ≡ Idle → ⊥) → r .table ≡ t → ⊥
+  moves : (r .kind ≡ Idle → ⊥) → Differs j t (r .table)
 
 -- an idle turn keeps the table
-idles : {t : List ℕ} → Result t (record { kind = Idle; table = t })
-idles = record { still = λ e. refl; moves = λ n e. n refl }
+idles : {j : Job} {t : List ℕ} → Result j t (record { kind = Idle; table = t })
+idles = record { still = λ e. refl; moves = λ n. absurd (n refl) }
 
 -- a turn of another kind changes some word
-changed : {t t′ : List ℕ} {k : Kind} → (k ≡ Idle → ⊥) → (i : ℕ) → (getD t′ i 0 ≡ getD t i 0 → ⊥) → Result t (record { kind = k; table = t′ })
-changed n i d = record { still = λ e. absurd (n e); moves = λ m e. d (ap (λ (u : List ℕ). getD u i 0) e) }
+changed : {j : Job} {t t′ : List ℕ} {k : Kind} → (k ≡ Idle → ⊥) → (i : ℕ) → ((w : ℕ) → w < j .workers → i ≡ W.newestWord j w → ⊥) → (getD t′ i 0 ≡ getD t i 0 → ⊥) → Result j t (record { kind = k; table = t′ })
+changed n i o d = record { still = λ e. absurd (n e); moves = λ m. record { word = i; other = o; differs = d } }
 
 module _ (j : Job) (J : JobOk j) (t : List ℕ) (R : InRange j t) (w : ℕ) (small : w < j .workers) where
   -- c's cursor, in any table in which c has passed its literal
@@ -41,49 +49,56 @@ module _ (j : Job) (J : JobOk j) (t : List ℕ) (R : InRange j t) (w : ℕ) (sma
   cursor-up {c = c} at t′ e d =
       omega (arith, X.same t (W.cursorWord c) (W.cursor t c + 1) (omega (arith, R .room, c-low J R small at)))
 
-  case-result : (r : Turned) → Case j t w r → Result t r
+  case-result : (r : Turned) → Case j t w r → Result j t r
   case-result r (wakes a b) =
-      changed (λ e. omega (arith, ap kindNumber e)) (W.awaitedWord j w)
+      changed (λ e. omega (arith, ap kindNumber e)) (W.awaitedWord j w) (λ u h e. omega arith)
       (λ e. a (sym e ∙ X.same t (W.awaitedWord j w) 0 (omega (arith, R .room))))
   case-result r (sleeps a b) = idles
   case-result r (rests a b c) = idles
   case-result r (answers a b) =
-      changed (λ e. omega (arith, ap kindNumber e)) (W.answeredWord j w)
+      changed (λ e. omega (arith, ap kindNumber e)) (W.answeredWord j w) (λ u h e. omega arith)
       (λ e. omega (arith, X.stored-answered j t w small (omega (arith, R .room))))
   case-result r (opens-asked a b) =
       let q = asked j t w in
-      changed (λ e. omega (arith, ap kindNumber e)) (W.markWord q)
+      changed (λ e. omega (arith, ap kindNumber e)) (W.markWord q) (λ u h e. omega (arith, J .question w (W.answered j t w) (a .more)))
       (λ e. omega (arith, X.open-mark t w q (omega (arith, R .room, J .question w (W.answered j t w) (a .more)))))
   case-result r (waits-asked a b c) =
-      changed (λ e. omega (arith, ap kindNumber e)) (W.awaitedWord j w)
+      changed (λ e. omega (arith, ap kindNumber e)) (W.awaitedWord j w) (λ u h e. omega arith)
       (λ e. omega (arith, a .free, X.same t (W.awaitedWord j w) (asked j t w + 1) (omega (arith, R .room))))
   case-result r (completes {n = n} a b) =
-      changed (λ e. omega (arith, ap kindNumber e)) (W.markWord n)
+      changed (λ e. omega (arith, ap kindNumber e)) (W.markWord n) (λ u h e. omega (arith, a .low))
       (λ e.
       omega
       (arith, J .few, a .its, mark-range j t n .0, X.marks-in (completedMark j t) (reached j t n) t n (omega (arith, R .room, a .low)) (reached-start j t n (a .low))))
   case-result r (sticks a b c) = idles
-  case-result r (passes {c = c} a b f) = changed (λ e. omega (arith, ap kindNumber e)) (W.cursorWord c) (cursor-up a (moved t c) refl)
+  case-result r (passes {c = c} a b f) = changed (λ e. omega (arith, ap kindNumber e)) (W.cursorWord c) (λ u h e. omega (arith, c-low J R small a)) (cursor-up a (moved t c) refl)
   case-result r (skips {c = c} a b) =
-      changed (λ e. omega (arith, ap kindNumber e)) (W.cursorWord c)
+      changed (λ e. omega (arith, ap kindNumber e)) (W.cursorWord c) (λ u h e. omega (arith, c-low J R small a))
       (λ e.
       omega
       (arith, X.same t (W.cursorWord c) (skipEnd j t c) (omega (arith, R .room, c-low J R small a)), end-more c (j .rules) (W.cursor t c) (omega (arith, c-room J R small a, lits-length j c))))
   case-result r (opens {c = c} a b f) =
-      changed (λ e. omega (arith, ap kindNumber e)) (W.markWord (literal j t c))
+      changed (λ e. omega (arith, ap kindNumber e)) (W.markWord (literal j t c)) (λ u h e. omega (arith, b-low J R small a))
       (λ e.
       omega
       (arith, X.open-mark (moved t c) w (literal j t c) (omega (arith, R .room, b-low J R small a, length-set t (W.cursorWord c) (W.cursor t c + 1)))))
   case-result r (takes {c = c} a b m f) =
-      changed (λ e. omega (arith, ap kindNumber e)) (W.cursorWord c)
+      changed (λ e. omega (arith, ap kindNumber e)) (W.cursorWord c) (λ u h e. omega (arith, c-low J R small a))
       (cursor-up a (markAll (λ d. w + 1) (taken j t c) (moved t c))
       (X.marks-cursor j (λ d. w + 1) (taken j t c) (moved t c) (λ d i. taken-in j J t R w small a d i .low) c))
   case-result r (waits {c = c} a b m f) =
-      changed (λ e. omega (arith, ap kindNumber e)) (W.cursorWord c)
+      changed (λ e. omega (arith, ap kindNumber e)) (W.cursorWord c) (λ u h e. omega (arith, c-low J R small a))
       (cursor-up a (set (moved t c) (W.awaitedWord j w) (literal j t c + 1))
       (X.await-cursor j (moved t c) w (literal j t c + 1) c (c-low J R small a)))
 
-  pub turn-changes : Changes j t w
-  turn-changes =
-      let r = case-result (turn j t w) (turn-case j t w) in
-      record { idle = r .still; acts = r .moves }
+  pub turn-changes : NewestKept j t → Changes j t w
+  unfolding turn
+  turn-changes k =
+      let r = case-result (baseTurn j t w) (turn-case j t w) in
+      let u = baseTurn j t w .table in
+      record {
+        idle = λ e. ap (withNewest (j .claims) (j .workers)) (r .still e) ∙ with-same j k;
+        acts = λ n e.
+            let d = r .moves n in
+            d .differs (sym (with-other (j .claims) u (j .workers) (d .word) (d .other)) ∙ ap (λ (x : List ℕ). getD x (d .word) 0) e);
+      }

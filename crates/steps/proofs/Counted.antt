@@ -7,7 +7,8 @@ use native.Mathlib.Omega.{arith}
 use Rattle.job.specs.Job.{Job}
 use Rattle.table.specs.Layout as W
 use Rattle.table.specs.Ranges.{InRange}
-use Rattle.turn.specs.Turn.{kindNumber, Turned, reached, completedMark, turn, skipEnd}
+use Rattle.table.proofs.Keeping.{with-answered}
+use Rattle.turn.specs.Turn.{kindNumber, Turned, reached, completedMark, baseTurn, turn, skipEnd}
 use Rattle.turn.specs.declared.Kind.{Kind}
 use Rattle.turn.specs.declared.Kind.the-variants.{Answered}
 use Rattle.turn.proofs.Jobs.{JobOk}
@@ -60,4 +61,8 @@ module _ (j : Job) (J : JobOk j) (t : List ℕ) (R : InRange j t) (w : ℕ) (sma
       (λ u. X.await-answered j (moved t c) w (literal j t c + 1) u ∙ X.cursor-answered j t c (W.cursor t c + 1) (c-low J R small a) u)
 
   pub turn-counted : Counted j t w (turn j t w)
-  turn-counted = case-counted (turn j t w) (turn-case j t w)
+  unfolding turn
+  turn-counted =
+      let r = case-counted (baseTurn j t w) (turn-case j t w) in
+      let k = with-answered (j .claims) (baseTurn j t w .table) (j .workers) in
+      record { more = λ e. k w ∙ r .more e; same = λ n. k w ∙ r .same n; others = λ u h n. k u ∙ r .others u h n }

@@ -11,17 +11,18 @@ use Rattle.semantics.specs.Model.{byteOf}
 use Rattle.table.specs.Questions.{askedBy, claimAsked, questionClaim}
 use Rattle.table.specs.Layout as W
 use Rattle.table.specs.Ranges.{InRange}
-use Rattle.turn.specs.Turn.{Turned, reached, completedMark, turn, skipEnd}
+use Rattle.table.proofs.Keeping.{with-mark}
+use Rattle.turn.specs.Turn.{Turned, reached, completedMark, baseTurn, turn, skipEnd}
 use Rattle.turn.proofs.Places.{place-low, place-once}
 use Rattle.turn.proofs.Jobs.{JobOk}
 use Rattle.turn.proofs.Leading.{in-low}
 use Rattle.turn.proofs.Cases.{AtQuestion, literal, moved, taken, asked, stored, Case, wakes, sleeps, rests, answers, opens-asked, waits-asked, completes, sticks, passes, skips, opens, takes, waits, turn-case}
 use Rattle.turn.proofs.Words as X
-use Rattle.turn.proofs.Range.{c-low, b-low}
+use Rattle.turn.proofs.Range.{c-low, b-low, base-range}
 use Rattle.steps.proofs.PassOutcome.{moved-long}
 use Rattle.steps.proofs.Takeover.{taken-in}
 use Rattle.steps.proofs.Verdicts.{verdictIn, answerTo, Verdicts, completed-right}
-use Rattle.steps.proofs.Steady.{Steady, steady-trans, await-steady, moved-steady, cursor-steady, open-steady, all-steady}
+use Rattle.steps.proofs.Steady.{Steady, steady-trans, await-steady, moved-steady, cursor-steady, with-steady, open-steady, all-steady}
 
 module _ (j : Job) (J : JobOk j) (t : List ℕ) (R : InRange j t) where
   pub steady-keeps : (t′ : List ℕ) → Steady j t t′ → Verdicts j t → Verdicts j t′
@@ -151,8 +152,8 @@ module _ (j : Job) (J : JobOk j) (t : List ℕ) (R : InRange j t) where
     effect r (waits {c = c} a b m f) =
         steady (steady-trans (moved-steady t c (c-low J R small a)) (await-steady (moved t c) w (literal j t c + 1) small))
 
-    pub verdicts-kept : Verdicts j (turn j t w .table)
-    verdicts-kept = go (effect (turn j t w) (turn-case j t w))
+    base-verdicts : Verdicts j (baseTurn j t w .table)
+    base-verdicts = go (effect (baseTurn j t w) (turn-case j t w))
       where
         go : {t′ : List ℕ} → Effect t′ → Verdicts j t′
         go {t′} (steady k) = steady-keeps t′ k G
@@ -160,9 +161,17 @@ module _ (j : Job) (J : JobOk j) (t : List ℕ) (R : InRange j t) where
 
     -- a complete claim stays as it is
     pub complete-stays : (c : ℕ) → c < j .claims → W.trueMark ≤ W.mark t c → W.mark (turn j t w .table) c ≡ W.mark t c
-    complete-stays c h d = go (turn j t w .table) (effect (turn j t w) (turn-case j t w))
+    unfolding turn
+    complete-stays c h d =
+        with-mark (j .claims) (baseTurn j t w .table) (j .workers) c h ∙ go (baseTurn j t w .table) (effect (baseTurn j t w) (turn-case j t w))
       where
         go : (t′ : List ℕ) → Effect t′ → W.mark t′ c ≡ W.mark t c
         go t′ (steady k) = k .kept c h d
         go t′ (answered a m e) =
             ap (λ (u : List ℕ). W.mark u c) e ∙ X.stored-word j t w small (W.markWord c) (omega arith) (λ e. omega arith)
+
+module _ (j : Job) (J : JobOk j) (t : List ℕ) (R : InRange j t) (w : ℕ) (small : w < j .workers) (G : Verdicts j t) where
+  pub verdicts-kept : Verdicts j (turn j t w .table)
+  unfolding turn
+  verdicts-kept =
+      steady-keeps j J (baseTurn j t w .table) (base-range J R small) (turn j t w .table) (with-steady (baseTurn j t w .table)) (base-verdicts j J t R w small G)

@@ -8,7 +8,8 @@ use Rattle.base.proofs.Lists.{In}
 use Rattle.job.specs.Job.{Job}
 use Rattle.table.specs.Layout as W
 use Rattle.table.specs.Ranges.{InRange}
-use Rattle.turn.specs.Turn.{Turned, reached, completedMark, openClaim, markAll, turn, skipEnd}
+use Rattle.table.proofs.Keeping.{with-past}
+use Rattle.turn.specs.Turn.{Turned, reached, completedMark, openClaim, markAll, baseTurn, turn, skipEnd}
 use Rattle.turn.proofs.Places.{place-low}
 use Rattle.turn.proofs.Jobs.{JobOk}
 use Rattle.turn.proofs.Leading.{in-low}
@@ -49,4 +50,5 @@ module _ (j : Job) (J : JobOk j) (t : List ℕ) (R : InRange j t) (w : ℕ) (sma
     case-past r (waits {c = c} a b m f) = await-past (moved t c) (literal j t c + 1) ∙ moved-past c (c-low J R small a)
 
   pub turn-past : (i : ℕ) → W.used j ≤ i → getD (turn j t w .table) i 0 ≡ getD t i 0
-  turn-past i l = case-past i l (turn j t w) (turn-case j t w)
+  unfolding turn
+  turn-past i l = with-past (j .claims) (baseTurn j t w .table) (j .workers) i (omega arith) ∙ case-past i l (baseTurn j t w) (turn-case j t w)

@@ -1,5 +1,5 @@
 -- Turns one after the other: what holds of every table that turns made from a start, and how they are a run of the abstract theory. Assumes nothing.
---   Made j t   t is in range, its view has the invariants, and its marks and answers are verdicts
+--   Made j t   t is in range with right third words, its view has the invariants, and its marks and answers are verdicts
 --   Low j ws   the workers ws are the job's
 use mathlib.Core.Path.{_≡_, refl, sym, subst}
 use mathlib.Core.Logic.{by-cases}
@@ -15,6 +15,7 @@ use Rattle.base.proofs.Lists.{In}
 use Rattle.job.specs.Job.{Job}
 use Rattle.table.specs.Questions.{askedBy}
 use Rattle.table.specs.Layout as W
+use Rattle.table.specs.Newest.{NewestKept}
 use Rattle.table.specs.Ranges.{InRange}
 use Rattle.waiting.specs.State.{Edge, Inv}
 use Rattle.waiting.specs.Steps.{Finite}
@@ -24,23 +25,24 @@ use Rattle.turn.specs.Turn.{lits, reached, turn, runTable}
 use Rattle.turn.proofs.Jobs.{JobOk, lits-length}
 use Rattle.steps.proofs.View.{low, low-in, low-out, low-pos, askAt, askAt-out, view}
 use Rattle.steps.proofs.Edges.{reach-in, in-reach}
-use Rattle.turn.proofs.Range.{turn-in-range}
+use Rattle.turn.proofs.Range.{turn-in-range, turn-kept}
 use Rattle.steps.proofs.Outcomes.{Outcome, idle, acts}
 use Rattle.steps.proofs.Turns.{turn-outcome}
 use Rattle.steps.proofs.Verdicts.{Verdicts}
 use Rattle.steps.proofs.Kept.{verdicts-kept}
-use Rattle.steps.proofs.Starting.{Started, started-range, started-view, started-verdicts}
+use Rattle.steps.proofs.Starting.{Started, started-range, started-newests, started-view, started-verdicts}
 
 abbrev pub sizes : Job → Sizes
 sizes j = record { A = j .claims; T = j .workers; size = λ c. length (lits j c); total = λ w. length (askedBy j w) }
 
 pub record Made (j : Job) (t : List ℕ) : Type 0 where
   pub range : InRange j t
+  pub newests : NewestKept j t
   pub inv : Inv (view j t) (j .workers)
   pub verdicts : Verdicts j t
 
 pub made-start : {j : Job} {t : List ℕ} → Started j t → Made j t
-made-start {j} s = record { range = started-range s; inv = start-holds (j .workers) (started-view s); verdicts = started-verdicts s }
+made-start {j} s = record { range = started-range s; newests = started-newests s; inv = start-holds (j .workers) (started-view s); verdicts = started-verdicts s }
 
 low-most : {n i : ℕ} (v m : ℕ) → (i < n → v ≤ m) → low n i v ≤ m
 low-most {n} {i} v m f =
@@ -82,12 +84,13 @@ module _ (j : Job) (J : JobOk j) (t : List ℕ) where
       }
 
   pub outcome : Made j t → (w : ℕ) → w < j .workers → Outcome j t w (turn j t w)
-  outcome M w h = turn-outcome j J t (M .range) w h (M .inv)
+  outcome M w h = turn-outcome j J t (M .range) w h (M .newests) (M .inv)
 
   pub made-turn : Made j t → (w : ℕ) → w < j .workers → Made j (turn j t w .table)
   made-turn M w h =
       record {
         range = turn-in-range J (M .range) h;
+        newests = turn-kept J (M .range) h;
         inv = inv (outcome M w h);
         verdicts = verdicts-kept j J t (M .range) w h (M .verdicts);
       }
@@ -118,7 +121,3 @@ module _ (j : Job) (J : JobOk j) where
       go : Run (sizes j) (view j (turn j t w .table)) ws (view j (runTable j (turn j t w .table) ws)) → Outcome j t w (turn j t w) → Run (sizes j) (view j t) (w ∷ ws) (view j (runTable j (turn j t w .table) ws))
       go r (idle k e n) = idled h n (subst (λ u. Run (sizes j) (view j u) ws (view j (runTable j (turn j t w .table) ws))) e r)
       go r (acts k s) = moved h s (ranged j J (turn j t w .table) (made-turn j J t M w h .range)) r
-
-  -- demand 2: whatever turns are made from a start, marks and answers are the verdicts of the job's model
-  pub run-verdicts : (ws t : List ℕ) → Started j t → Low j ws → Verdicts j (runTable j t ws)
-  run-verdicts ws t s l = made-run ws t (made-start s) l .verdicts

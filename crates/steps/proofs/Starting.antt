@@ -1,4 +1,4 @@
--- A table as starting leaves it is in range, shows the abstract theory's start, and no verdict yet. Assumes nothing.
+-- A table as starting leaves it is in range with right third words, shows the abstract theory's start, and no verdict yet. Assumes nothing.
 --   Started j t   the header, then zeros
 use mathlib.Core.Path.{_≡_, sym, _∙_, ap}
 use mathlib.Core.Logic.{inl, by-cases}
@@ -14,9 +14,11 @@ use Rattle.base.proofs.Counts.{count-same}
 use Rattle.job.specs.Job.{Job}
 use Rattle.table.specs.Questions.{askedBy}
 use Rattle.table.specs.Layout as W
+use Rattle.table.specs.Newest.{NewestKept, none}
 use Rattle.table.specs.Ranges.{marked, InRange}
 use Rattle.table.specs.Start.{startWords}
 use Rattle.table.proofs.Started as S
+use Rattle.table.proofs.NewestOf.{sought-is}
 use Rattle.waiting.specs.Steps.{Start}
 use Rattle.turn.proofs.Places.{place-low}
 use Rattle.steps.proofs.View.{low, low-in, low-out, view}
@@ -80,6 +82,14 @@ module _ {j : Job} {t : List ℕ} (s : Started j t) where
         values = λ k h. omega (arith, s .zeros (W.answerWord j k) (omega arith) (omega arith));
       }
 
+  -- nobody owns a claim
+  pub started-newests : NewestKept j t
+  started-newests =
+      record {
+        is = λ w h.
+            sought-is (j .claims) t w (none (s .zeros (W.newestWord j w) (omega arith) (omega arith)) (λ c o. omega (arith, o .1, mark-zero c (o .0))));
+      }
+
   zero-low : {n i v : ℕ} → (i < n → v ≡ 0) → low n i v ≡ 0
   zero-low {n} {i} {v} f = by-cases (decLt i n) (λ h. low-in v h ∙ f h) (λ h. low-out v h)
 
@@ -91,9 +101,6 @@ module _ {j : Job} {t : List ℕ} (s : Started j t) where
         awaits = λ w. zero-low (awaited-zero w);
         none = λ {x = x} p. omega (arith, p .before, cursor-zero x (p .claim));
       }
-
-  pub started-answered : (w : ℕ) → view j t .answered w ≡ 0
-  started-answered w = zero-low (answered-zero w)
 
   pub started-verdicts : Verdicts j t
   started-verdicts =

@@ -12,6 +12,8 @@ use Rattle.base.proofs.Choose.{t?}
 use Rattle.base.proofs.Lists.{In}
 use Rattle.job.specs.Job.{Job, mostWorkers}
 use Rattle.table.specs.Layout as W
+use Rattle.table.specs.Newest.{withNewest}
+use Rattle.table.proofs.Keeping.{with-mark, with-answered, with-past}
 use Rattle.turn.specs.Turn.{openClaim, markAll}
 use Rattle.turn.proofs.Cases.{moved}
 use Rattle.turn.proofs.Words as X
@@ -50,6 +52,13 @@ module _ {j : Job} where
 
   pub moved-steady : (t : List ℕ) (c : ℕ) → c < j .claims → Steady j t (moved t c)
   moved-steady t c low = cursor-steady t c (W.cursor t c + 1) low
+
+  -- third words are stored
+  pub with-steady : (t : List ℕ) → Steady j t (withNewest (j .claims) (j .workers) t)
+  with-steady t =
+      let a = j .claims in
+      let n = j .workers in
+      marks-steady (with-mark a t n) (with-answered a t n) (λ k. with-past a t n (W.answerWord j k) (omega arith))
 
   pub open-steady : (t : List ℕ) (w b : ℕ) → w < mostWorkers → b < j .claims → W.numberWord b < length t → W.mark t b ≡ 0 → Steady j t (openClaim t w b)
   open-steady t w b few low long z =

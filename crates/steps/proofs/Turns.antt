@@ -10,11 +10,15 @@ use Rattle.base.proofs.Choose.{t?}
 use Rattle.base.proofs.Lists.{In}
 use Rattle.job.specs.Job.{Job}
 use Rattle.table.specs.Layout as W
+use Rattle.table.specs.Newest.{withNewest, NewestKept}
 use Rattle.table.specs.Ranges.{InRange}
+use Rattle.table.proofs.Keeping.{with-low, with-mark, with-cursor, with-number, with-awaited, with-answered, with-same}
 use Rattle.waiting.specs.State.{Edge, Newest, Inv}
 use Rattle.waiting.specs.Steps as S
 use Rattle.waiting.proofs.Basics.{to-newest}
-use Rattle.turn.specs.Turn.{kindNumber, Turned, reached, completedMark, markAll, turn}
+use Rattle.waiting.proofs.Alike.{Alike, step-alike}
+use Rattle.turn.proofs.Behind.{same}
+use Rattle.turn.specs.Turn.{kindNumber, Turned, reached, completedMark, markAll, baseTurn, turn, keeping}
 use Rattle.turn.specs.declared.Kind.the-variants.{Idle, Completed}
 use Rattle.turn.proofs.Jobs.{JobOk}
 use Rattle.steps.proofs.View.{low-in, low-cong, view}
@@ -107,5 +111,25 @@ module _ (j : Job) (J : JobOk j) (t : List ℕ) (R : InRange j t) (w : ℕ) (sma
   case-outcome I r (takes a b c f) = takes-outcome j J t R w small a b f c
   case-outcome I r (waits a b c f) = P.waits-outcome j J t R w small a b c f
 
-  pub turn-outcome : Inv (view j t) (j .workers) → Outcome j t w (turn j t w)
-  turn-outcome I = case-outcome I (turn j t w) (turn-case j t w)
+  -- third words aren't part of the view
+  kept-outcome : NewestKept j t → (r : Turned) → Outcome j t w r → Outcome j t w (keeping j r)
+  kept-outcome k r (idle e i n) = idle e (ap (withNewest (j .claims) (j .workers)) i ∙ with-same j k) n
+  kept-outcome k r (acts n s) = acts n (step-alike alike s)
+    where
+      a : ℕ
+      a = j .claims
+
+      u : List ℕ
+      u = r .table
+
+      alike : Alike (view j u) (view j (keeping j r .table))
+      alike =
+          record {
+            claims = Q.claims (with-mark a u (j .workers)) (with-number a u (j .workers)) (with-low a u (j .workers) W.openedWord (omega arith));
+            workers = Q.workers (λ v l. with-awaited a u (j .workers) v) (λ v l. with-answered a u (j .workers) v);
+            literals = Q.stays J (λ x l. same (with-mark a u (j .workers) x l)) (with-cursor a u (j .workers));
+          }
+
+  pub turn-outcome : NewestKept j t → Inv (view j t) (j .workers) → Outcome j t w (turn j t w)
+  unfolding turn
+  turn-outcome k I = kept-outcome k (baseTurn j t w) (case-outcome I (baseTurn j t w) (turn-case j t w))

@@ -1,8 +1,12 @@
 pub mod Each
-pub mod Apart
 pub mod Sizes
 pub mod Asked
+pub mod QuestionPlaces
 pub mod Marks
 pub mod Started
 pub mod Ranges
 pub mod Shown
+pub mod Searching
+pub mod NewestOf
+pub mod Keeping
+pub mod SearchAll

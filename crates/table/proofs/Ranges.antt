@@ -1,4 +1,4 @@
--- A table is accepted exactly where it is in range. Assumes nothing.
+-- A table is accepted exactly where it is in range and its third words are kept. Assumes nothing.
 use Prim.Native.Nat.{ℕ, _≤_}
 use mathlib.Core.Path.{_≡_, refl, sym, _∙_}
 use mathlib.Core.Bool.{false, _&&_, _||_}
@@ -18,6 +18,7 @@ use Rattle.job.specs.Job.{Job, literalsOf}
 use Rattle.job.specs.declared.Check.the-variants.{Accepted}
 use Rattle.job.proofs.Rows.{both, join, pass, row-no, scan-all, scan-none}
 use Rattle.table.specs.Layout.{used, mark, cursor, number, trueMark, undefinedMark}
+use Rattle.table.specs.Newest.{NewestKept}
 use Rattle.table.specs.Ranges.{checkRoom, checkClaim, checkWorker, checkWords, checkTable, ClaimInRange, InRange}
 use Rattle.table.proofs.Each.{each-none, each-all, row-pass}
 
@@ -86,33 +87,35 @@ module _ (j : Job) (t : List ℕ) where
       (pass _ _ _ _ (most-pick (mark t c) (cursor t c) (length (literalsOf c (j .rules))) (r .unread) (r .read))
       (pass _ _ _ _ (number-pick (mark t c) (number t c) (j .claims) (r .unnumbered) (r .numbered) (r .numberMost)) refl))
 
-  pub ranges : Accepted ≡ checkTable j t → InRange j t
+  pub ranges : Accepted ≡ checkTable j t → InRange j t × NewestKept j t
   unfolding checkTable checkWords checkWorker
   ranges e =
       let a = both _ _ e in
       let h = both _ _ (a .1) in
       let o = both _ _ (h .1) in
       let c = both _ _ (o .1) in
-      let w = both _ _ (c .1) in
-      record {
-        room = enough-room j t (a .0);
-        headerIs = λ i l. differs-eq _ _ (scan-all _ _ _ _ (h .0) i l);
-        openedIs = differs-eq _ _ (row-no _ _ _ (o .0));
-        claim = λ d l. claim-in d (each-all _ _ (c .0) d l);
-        awaits = λ v l. over-le _ _ (row-no _ _ _ (both _ _ (each-all _ _ (w .0) v l) .0));
-        answers = λ v l. over-le _ _ (row-no _ _ _ (both _ _ (both _ _ (each-all _ _ (w .0) v l) .1) .0));
-        values = λ k l. over-le _ _ (scan-all _ _ _ _ (w .1) k l);
-      }
+      let w = both _ _ (c .1) in (
+        record {
+          room = enough-room j t (a .0);
+          headerIs = λ i l. differs-eq _ _ (scan-all _ _ _ _ (h .0) i l);
+          openedIs = differs-eq _ _ (row-no _ _ _ (o .0));
+          claim = λ d l. claim-in d (each-all _ _ (c .0) d l);
+          awaits = λ v l. over-le _ _ (row-no _ _ _ (both _ _ (each-all _ _ (w .0) v l) .0));
+          answers = λ v l. over-le _ _ (row-no _ _ _ (both _ _ (both _ _ (each-all _ _ (w .0) v l) .1) .0));
+          values = λ k l. over-le _ _ (scan-all _ _ _ _ (w .1) k l);
+        },
+        record { is = λ v l. differs-eq _ _ (row-no _ _ _ (both _ _ (both _ _ (both _ _ (each-all _ _ (w .0) v l) .1) .1) .0)) },
+      )
 
-  pub accepts : InRange j t → Accepted ≡ checkTable j t
+  pub accepts : InRange j t × NewestKept j t → Accepted ≡ checkTable j t
   unfolding checkTable checkRoom checkWords checkWorker
-  accepts r =
+  accepts (r, n) =
       join _ _ (pass _ _ _ _ (under-no _ _ (r .room)) refl)
       (join _ _ (scan-none _ _ _ _ (λ i l. differs-no _ _ (r .headerIs i l)))
       (join _ _ (row-pass _ _ _ (differs-no _ _ (r .openedIs)))
       (join _ _ (each-none _ _ (λ c l. in-claim c (r .claim c l)))
-      (join _ _ (each-none _ _ (λ w l. pass _ _ _ _ (over-no _ _ (r .awaits w l)) (pass _ _ _ _ (over-no _ _ (r .answers w l)) refl)))
+      (join _ _ (each-none _ _ (λ w l. pass _ _ _ _ (over-no _ _ (r .awaits w l)) (pass _ _ _ _ (over-no _ _ (r .answers w l)) (pass _ _ _ _ (differs-no _ _ (n .is w l)) refl))))
       (scan-none _ _ _ _ (λ k l. over-no _ _ (r .values k l)))))))
 
-pub in-range : (j : Job) (t : List ℕ) → (Accepted ≡ checkTable j t) ↔ InRange j t
+pub in-range : (j : Job) (t : List ℕ) → (Accepted ≡ checkTable j t) ↔ (InRange j t × NewestKept j t)
 in-range j t = (ranges j t, accepts j t)

@@ -2,7 +2,7 @@
 --   mark-most        no mark of a table in range is past the last value's
 --   reading-value    the reading of such a mark has the value that the mark shows
 --   reading-fresh, -true, -false, -undefined, -open   the reading of each mark
-use Prim.Native.Nat.{ℕ, _-_, _≤_}
+use Prim.Native.Nat.{ℕ, _≤_}
 use mathlib.Core.Path.{_≡_, _∙_, ap}
 use mathlib.Core.List.{List}
 use mathlib.Core.Logic.{⊎-elim, by-cases}

@@ -6,7 +6,7 @@ use mathlib.Core.List.{List, [], _∷_}
 use native.Mathlib.Omega.{arith}
 use lib.ListN.{length, getD, set, replicate}
 use Rattle.base.specs.Number.{Number}
-use Rattle.base.specs.Compare.{over}
+use Rattle.base.specs.Compare.{over, differs}
 use Rattle.base.proofs.Compare.{over-yes, over-no, differs-yes, differs-no}
 use Rattle.base.proofs.Span.{length-span}
 use Rattle.job.specs.Format.{claims, workers, questions, jobOf}
@@ -55,6 +55,14 @@ module _ (t : List ℕ) {a b v n m : ℕ} (place : a ≡ b) (read : v ≡ getD t
 
   pub word-good : v ≤ n → over (getD t b 0) m ≡ false
   word-good h = over-no _ _ (omega (arith, ap (λ (x : ℕ). getD t x 0) place))
+
+-- the test of a word that is to be n, from its place a
+module _ (t : List ℕ) {a b v n m : ℕ} (place : a ≡ b) (read : v ≡ getD t a 0) (due : n ≡ m) where
+  pub word-other : (v ≡ n → ⊥) → differs (getD t b 0) m ≡ true
+  word-other h = differs-yes _ _ (λ e. h (omega (arith, ap (λ (x : ℕ). getD t x 0) place)))
+
+  pub word-same : v ≡ n → differs (getD t b 0) m ≡ false
+  word-same h = differs-no _ _ (omega (arith, ap (λ (x : ℕ). getD t x 0) place))
 
 pub zeros-at : (n i : ℕ) → getD {A = ℕ} (replicate n 0) i 0 ≡ 0
 zeros-at zero i = refl

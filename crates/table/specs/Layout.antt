@@ -2,14 +2,14 @@
 --   openedWord           the place of the header's last word; fixedWords   how many words stand before it, which never change
 --   claimsFrom           where the words of claims start; markWord c, cursorWord c, numberWord c   where those of claim c stand
 --   workersFrom a        where the words of a claims end, and those of workers start
---   awaitedAt a w, answeredAt a w   where the words of worker w stand, in a table for a claims
+--   awaitedAt a w, answeredAt a w, newestAt a w   where the words of worker w stand, in a table for a claims
 --   answersFrom a t      where the words of a claims and t workers end, and those of questions start
 --   answerAt a t k       where the word of question k stands, in such a table
 --   awaitedWord j w, ..  the same places in a table of job j
 --   Place i              i is small enough to be a word's place in a slice
 --   mostWords            words enough for the table of every job
 --   used j               words used; header j   the first seven words
---   mark t c, ..         what each word holds; opened t   claims opened so far
+--   mark t c, ..         what each word holds; opened t   claims opened so far; kept j t w   w's newest open claim + 1, or 0, as the table has it
 --   trueMark, ..         the marks of complete claims: valueBase and a value, which is 1 to mostValue
 --   fresh, complete, owned   a claim's state, by its mark. Open: an incomplete table entry; complete: a completed one
 --   valueOf m            the value that a mark shows: 1 to 3, or 0 where the claim is not complete
@@ -24,7 +24,7 @@ use Rattle.base.specs.Span.{span}
 use Rattle.job.specs.Job.{Job, mostClaims, mostWorkers, mostQuestions}
 use Rattle.semantics.specs.Model.{Verdict, byteOf}
 
--- "A header of eight words: words used; A; T; Q; offsets 8, 8 + 3A, 8 + 3A + 2T; claims opened so far."
+-- "A header of eight words: words used; A; T; Q; offsets 8, 8 + 3A, ..; claims opened so far." (02, order 3) "with the last offset 8 + 3A + 3T"
 abbrev pub openedWord : ℕ
 openedWord = 7
 
@@ -47,12 +47,15 @@ numberWord c = 10 + 3 * c
 abbrev pub workersFrom : ℕ → ℕ
 workersFrom a = markWord a
 
--- "Per worker: awaited claim + 1 or 0; questions answered."
+-- "Per worker: awaited claim + 1 or 0; questions answered." (02, order 3) "a third word: its newest open claim + 1, or 0"
 abbrev pub awaitedAt : ℕ → ℕ → ℕ
-awaitedAt a w = workersFrom a + 2 * w
+awaitedAt a w = workersFrom a + 3 * w
 
 abbrev pub answeredAt : ℕ → ℕ → ℕ
 answeredAt a w = awaitedAt a w + 1
+
+abbrev pub newestAt : ℕ → ℕ → ℕ
+newestAt a w = awaitedAt a w + 2
 
 abbrev pub answersFrom : ℕ → ℕ → ℕ
 answersFrom a t = awaitedAt a t
@@ -70,10 +73,13 @@ awaitedWord j w = awaitedAt (j .claims) w
 abbrev pub answeredWord : Job → ℕ → ℕ
 answeredWord j w = answeredAt (j .claims) w
 
+abbrev pub newestWord : Job → ℕ → ℕ
+newestWord j w = newestAt (j .claims) w
+
 abbrev pub answerWord : Job → ℕ → ℕ
 answerWord j k = answerAt (j .claims) (j .workers) k
 
--- "words used 8 + 3A + 2T + Q"
+-- (02, order 3) "Words used become 8 + 3A + 3T + Q"
 abbrev pub used : Job → ℕ
 used j = answerWord j (length (j .questions))
 
@@ -102,6 +108,9 @@ awaited j t w = getD t (awaitedWord j w) 0
 
 abbrev pub answered : Job → List ℕ → ℕ → ℕ
 answered j t w = getD t (answeredWord j w) 0
+
+abbrev pub kept : Job → List ℕ → ℕ → ℕ
+kept j t w = getD t (newestWord j w) 0
 
 abbrev pub answer : Job → List ℕ → ℕ → ℕ
 answer j t k = getD t (answerWord j k) 0

@@ -3,7 +3,8 @@
 --   checkRoom j t      row 9
 --   checkWords j t     row 10: the first word that is not as it should be
 --   checkTable j t     both
---   InRange j t        the facts of an accepted table (proofs/Ranges: accepted exactly where they hold)
+--   InRange j t        the facts of an accepted table but those of the third words, which are `NewestKept` (specs/Newest)
+--                      (proofs/Ranges: accepted exactly where both hold)
 use Prim.Native.Nat.{ℕ, zero, suc, _<_, _≤_}
 use mathlib.Core.Bool.{Bool, not, _&&_, _||_}
 use mathlib.Core.List.{List}
@@ -18,8 +19,9 @@ use Rattle.job.specs.Rows.{_⨾_, row, scan}
 use Rattle.job.specs.declared.Check.{Check}
 use Rattle.job.specs.declared.Check.the-variants.{Accepted}
 use Rattle.table.specs.Questions.{askedBy}
-use Rattle.table.specs.Layout.{used, fixedWords, header, openedWord, opened, markWord, cursorWord, numberWord, mark, cursor, number, awaitedWord, answeredWord, answerWord}
-use Rattle.table.specs.Layout.{awaited, answered, answer, mostValue, trueMark, undefinedMark, fresh}
+use Rattle.table.specs.Layout.{used, fixedWords, header, openedWord, opened, markWord, cursorWord, numberWord, mark, cursor, number, awaitedWord, answeredWord, newestWord, answerWord}
+use Rattle.table.specs.Layout.{awaited, answered, kept, answer, mostValue, trueMark, undefinedMark, fresh}
+use Rattle.table.specs.Newest.{sought}
 
 unfoldable pub each : (ℕ → Check) → ℕ → Check
 each f zero = Accepted
@@ -53,10 +55,12 @@ checkClaim j t c =
     row (badMark j (mark t c)) 10 (markWord c) ⨾ row (badCursor j t c) 10 (cursorWord c) ⨾ row (badNumber j t c) 10 (numberWord c) ⨾ Accepted
 
 -- "awaited at most A, answered at most the worker's questions"
+-- (02, order 3) "10 also covers a third word that isn't what a search finds."
 unfoldable pub checkWorker : Job → List ℕ → ℕ → Check
 checkWorker j t w =
     row (over (awaited j t w) (j .claims)) 10 (awaitedWord j w)
     ⨾ row (over (answered j t w) (length (askedBy j w))) 10 (answeredWord j w)
+    ⨾ row (differs (kept j t w) (sought (j .claims) t w)) 10 (newestWord j w)
     ⨾ Accepted
 
 -- "Per question: 0 or its value 1 to 3."

@@ -2,7 +2,7 @@
 ghost use mathlib.Core.Path.{_≡_};
 ghost use Prim.Native.Nat.{_<_};
 ghost use lib.ListN.{length, set};
-ghost use Rattle.table.specs.Layout.{openedWord, markWord, cursorWord, numberWord, awaitedAt, answeredAt, answerAt};
+ghost use Rattle.table.specs.Layout.{openedWord, markWord, cursorWord, numberWord, awaitedAt, answeredAt, newestAt, answerAt};
 use crate::words;
 
 // Word i becomes v.
@@ -56,6 +56,13 @@ pub fn set_answered(table: &mut [u32], claims: usize, w: usize, v: usize)
     ensures { λ r. ⌜ now (table .exit) ≡ set (now (table .entry)) (answeredAt claims w) v ⌝ }
 {
     set_word(table, words::answered_word(claims, w), v);
+}
+
+pub fn set_newest(table: &mut [u32], claims: usize, w: usize, v: usize)
+    requires { ⌜ (newestAt claims w < length (now table)) × (v < 4294967296) ⌝ }
+    ensures { λ r. ⌜ now (table .exit) ≡ set (now (table .entry)) (newestAt claims w) v ⌝ }
+{
+    set_word(table, words::newest_word(claims, w), v);
 }
 
 // The word of question k in a table for this many claims and workers.

@@ -7,7 +7,7 @@ ghost use lib.ListN.{length, getD};
 ghost use Rattle.base.specs.Number.{Number};
 ghost use Rattle.job.specs.Accepted.{WellFormed};
 ghost use Rattle.job.specs.Format.{jobOf};
-ghost use Rattle.table.specs.Layout.{Place, openedWord, markWord, cursorWord, numberWord, workersFrom, awaitedAt, answeredAt, answersFrom, answerAt, used, header};
+ghost use Rattle.table.specs.Layout.{Place, openedWord, markWord, cursorWord, numberWord, workersFrom, awaitedAt, answeredAt, newestAt, answersFrom, answerAt, used, header};
 ghost use Rattle.table.specs.Layout.{opened, mark as markIn, cursor, number, trueMark, valueOf, markOfValue};
 ghost use Rattle.table.specs.Reading.{readingOf};
 use crate::Reading;
@@ -26,7 +26,7 @@ pub const CLAIMS_AT: usize = 8;
 // Words enough for the table of every job.
 pub const MOST_WORDS: usize = CLAIMS_AT
     + 3 * checks::MOST_CLAIMS
-    + 2 * checks::MOST_WORKERS
+    + 3 * checks::MOST_WORKERS
     + checks::MOST_QUESTIONS;
 
 // The marks of the values: each is the value, 1 to 3, and a base.
@@ -70,12 +70,12 @@ pub fn workers_from(claims: usize) -> usize
     mark_word(claims)
 }
 
-// The places of worker w's words: the claim it awaits + 1, or 0; how many questions it has answered.
+// The places of worker w's words: the claim it awaits + 1, or 0; how many questions it has answered; its newest open claim + 1, or 0.
 pub fn awaited_word(claims: usize, w: usize) -> usize
     requires { ⌜ Place (awaitedAt claims w) ⌝ }
     ensures { λ r. ⌜ r ≡ awaitedAt claims w ⌝ }
 {
-    workers_from(claims) + 2 * w
+    workers_from(claims) + 3 * w
 }
 
 pub fn answered_word(claims: usize, w: usize) -> usize
@@ -83,6 +83,13 @@ pub fn answered_word(claims: usize, w: usize) -> usize
     ensures { λ r. ⌜ r ≡ answeredAt claims w ⌝ }
 {
     awaited_word(claims, w) + 1
+}
+
+pub fn newest_word(claims: usize, w: usize) -> usize
+    requires { ⌜ Place (newestAt claims w) ⌝ }
+    ensures { λ r. ⌜ r ≡ newestAt claims w ⌝ }
+{
+    awaited_word(claims, w) + 2
 }
 
 // Where the words of this many workers end, and those of questions start.
@@ -152,6 +159,13 @@ pub fn answered_at(table: &[u32], claims: usize, w: usize) -> usize
     ensures { λ r. ⌜ Number r (getD (now (table .entry)) (answeredAt claims w) 0) 4294967296 ⌝ }
 {
     word_at(table, answered_word(claims, w))
+}
+
+pub fn newest_at(table: &[u32], claims: usize, w: usize) -> usize
+    requires { ⌜ newestAt claims w < length (now table) ⌝ }
+    ensures { λ r. ⌜ Number r (getD (now (table .entry)) (newestAt claims w) 0) 4294967296 ⌝ }
+{
+    word_at(table, newest_word(claims, w))
 }
 
 // The word of question k in a table for this many claims and workers.

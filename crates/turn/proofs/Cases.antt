@@ -6,8 +6,8 @@
 --   literal j t c        the claim of c's next literal;    moved t c   the table in which c has passed it
 --   skipped j t c        the table in which c has skipped the rest of its rule;    Clear j t c   no earlier literal of that rule is complete and false
 --   taken j t w c        the claims that w takes over
---   Case j t w r         the turn r of w
---   turn-case            the turn of w is by one of the cases
+--   Case j t w r         the turn r of w, its third words not yet sought
+--   turn-case            the turn of w, as 01 has it, is by one of the cases
 use mathlib.Core.Path.{_≡_, sym, subst}
 use mathlib.Core.Logic.{_⊎_, inl, inr}
 use mathlib.Core.Bool.{not, _&&_}
@@ -24,11 +24,12 @@ use Rattle.base.proofs.Lists.{In, in-upto, upto-in, in-keep, keep-in, every-in,
 use Rattle.job.specs.Job.{Job}
 use Rattle.table.specs.Questions.{askedBy, questionClaim}
 use Rattle.table.specs.Layout as W
-use Rattle.turn.specs.Turn.{Turned, lits, reached, newest, allPassed, completedMark, openClaim, markAll, meets, askTurn, passTurn, workTurn, turn, clear, skipEnd}
+use Rattle.table.specs.Newest.{newest, NewestOf, none, some}
+use Rattle.table.proofs.NewestOf.{newest-of}
+use Rattle.turn.specs.Turn.{Turned, lits, reached, allPassed, completedMark, openClaim, markAll, meets, askTurn, passTurn, workTurn, baseTurn, clear, skipEnd}
 use Rattle.turn.specs.declared.Kind.the-variants.{Idle, Woke, Opened, Waits, Took, Passed, Completed, Answered}
 use Rattle.turn.proofs.Behind.{Behind, clear-not, behind-of}
 use Rattle.turn.proofs.Tests.{is-eq, not-eq, eq-not}
-use Rattle.turn.proofs.NewestOf.{NewestOf, none, some, newest-of}
 
 pub record AtQuestion (j : Job) (t : List ℕ) (w : ℕ) : Type 0 where
   pub free : W.awaited j t w ≡ 0
@@ -170,17 +171,17 @@ module _ (j : Job) (t : List ℕ) (w : ℕ) where
         pick-elim (Case j t w) (every (λ d. W.owned t w d && allPassed j t d) (reached j t n)) (λ e. completes at (all-in e))
         (λ e. go (λ f. T-not (every (λ d. W.owned t w d && allPassed j t d) (reached j t n)) e (in-all f)) (newest t lefts) (newest-of t lefts))
       where
-        go : (((x : ℕ) → In x (reached j t n) → (W.mark t x ≡ w + 1) × Full j t x) → ⊥) → (l : ℕ) → NewestOf t lefts l → Case j t w (pick (eqb l 0) (record { kind = Idle; table = t }) (passTurn j t w (l - 1)))
+        go : (((x : ℕ) → In x (reached j t n) → (W.mark t x ≡ w + 1) × Full j t x) → ⊥) → (l : ℕ) → NewestOf t (λ d. In d lefts) l → Case j t w (pick (eqb l 0) (record { kind = Idle; table = t }) (passTurn j t w (l - 1)))
         go e l (none z f) =
             pick-elim (Case j t w) (eqb l 0) (λ y. sticks at e (λ x i m k. f x (in-lefts x i m k))) (λ y. absurd (not-eq l 0 y z))
         go e l (some c z i f) =
             pick-elim (Case j t w) (eqb l 0) (λ y. absurd (omega (arith, eqb→eq l 0 y)))
             (λ y.
             let q : l - 1 ≡ c = omega arith in
-            subst (λ m. Case j t w (passTurn j t w m)) (sym q) (pass-case (lefts-in c i f)))
+            subst (λ m. Case j t w (passTurn j t w m)) (sym q) (pass-case (lefts-in c i (λ d k. f d k .most))))
 
-  pub turn-case : Case j t w (turn j t w)
-  unfolding turn
+  pub turn-case : Case j t w (baseTurn j t w)
+  unfolding baseTurn
   turn-case =
       pick-elim (Case j t w) (eqb (W.awaited j t w) 0) (λ z. go (eqb→eq (W.awaited j t w) 0 z) (newest t mines) (newest-of t mines))
       (λ z.
@@ -194,7 +195,7 @@ module _ (j : Job) (t : List ℕ) (w : ℕ) where
       in-mines : (x : ℕ) → x < j .claims → W.mark t x ≡ w + 1 → In x mines
       in-mines x h m = in-keep (W.owned t w) x (upto (j .claims)) (in-upto x (j .claims) h) (is-eq (W.mark t x) (w + 1) m)
 
-      go : W.awaited j t w ≡ 0 → (l : ℕ) → NewestOf t mines l → Case j t w (pick (eqb l 0) (askTurn j t w) (workTurn j t w (l - 1)))
+      go : W.awaited j t w ≡ 0 → (l : ℕ) → NewestOf t (λ d. In d mines) l → Case j t w (pick (eqb l 0) (askTurn j t w) (workTurn j t w (l - 1)))
       go free l (none z f) =
           pick-elim (Case j t w) (eqb l 0) (λ y. ask-case free (λ x h m. f x (in-mines x h m))) (λ y. absurd (not-eq l 0 y z))
       go free l (some c z i f) =
@@ -203,4 +204,4 @@ module _ (j : Job) (t : List ℕ) (w : ℕ) where
           let k = keep-in (W.owned t w) c (upto (j .claims)) i in
           let q : l - 1 ≡ c = omega arith in
           subst (λ m. Case j t w (workTurn j t w m)) (sym q)
-          (work-case (record { free = free; low = upto-in c (j .claims) (k .0); its = eqb→eq (W.mark t c) (w + 1) (k .1); last = λ x h m. f x (in-mines x h m) })))
+          (work-case (record { free = free; low = upto-in c (j .claims) (k .0); its = eqb→eq (W.mark t c) (w + 1) (k .1); last = λ x h m. f x (in-mines x h m) .most })))

@@ -1,68 +1,50 @@
 -- What is reached, as a set of bytes holds it; the marks that completion gives; and the turn of a worker with an open claim. Assumes nothing.
---   reached-rising    what is reached stands in rising order
 --   members-reached   the members of a set that holds what is reached are what is reached
 --   newest-in         the newest of some claims is one of them
 --   completed         the marks stored from the bytes evaluated are those of completion
 --   work-completed, work-idle, work-passes   the turn, by what was gathered
 --   left-one          the newest claim with a literal left is a claim, is w's, and has one
-use Prim.Native.Nat.{ℕ, zero, suc, _-_, _<_}
+use Prim.Native.Nat.{ℕ, _+_, _-_, _<_}
 use mathlib.Core.Path.{_≡_, refl, sym, _∙_, ap, ap₂, subst⁻¹}
 use mathlib.Core.Bool.{Bool, true, false, not, _&&_, false≢true}
 use mathlib.Core.List.{List, [], _∷_}
 use native.Mathlib.Omega.{arith}
-use borrow.Author.Tests.{eq-eqb, ne-eqb}
-use lib.Dec.{ltb, eqb}
+use borrow.Author.Tests.{eq-eqb, ne-eqb, eqb-true}
+use lib.Dec.{eqb}
 use lib.ListN.{length, getD, set}
 use Rattle.base.specs.Choose.{pick}
 use Rattle.base.specs.Span.{span}
 use Rattle.base.specs.Sets.{setOf}
 use Rattle.base.specs.Lists.{upto, keep, every, isIn}
-use Rattle.base.proofs.Bools.{is-true, and-both}
-use Rattle.base.proofs.Choose.{pick-elim, pick-true, pick-false}
-use Rattle.base.proofs.Lists.{In, in-head, in-tail, upto-in, keep-in, keep-same, keep-members}
+use Rattle.base.proofs.Bools.{is as holds, is-true, and-both}
+use Rattle.base.proofs.Choose.{pick-true, pick-false}
+use Rattle.base.proofs.Lists.{In, in-head, in-tail, upto-in, keep-in, keep-same, every-in}
 use Rattle.job.specs.Job.{Job}
-use Rattle.job.specs.Format.{claims, jobOf}
+use Rattle.job.specs.Format.{claims, workers, jobOf}
 use Rattle.semantics.specs.Model.{programOf, verdict, exchange, knownOf}
 use Rattle.model.specs.Exchanged.{givenProgram}
 use Rattle.model.specs.Output.{OutputBytes}
-use Rattle.table.specs.Layout.{markWord, mark, cursor, number, owned, valueOf, markOf, values, markOfValue}
+use Rattle.table.specs.Layout.{markWord, mark, cursor, owned, valueOf, markOf, values, markOfValue}
+use Rattle.table.specs.Newest.{newest, sought, NewestKept, NewestOf, none, some}
+use Rattle.table.proofs.NewestOf.{newest-of}
 use Rattle.table.proofs.Sizes.{sizes}
-use Rattle.turn.specs.Turn.{Turned, lits, spread, spreads, reached, newest, allPassed, completedMark, markAll, passTurn, workTurn}
-use Rattle.turn.specs.Ready.{Ready, Made, members, passedIn}
+use Rattle.turn.specs.Turn.{Turned, lits, reached, allPassed, completedMark, markAll, passTurn, workTurn, keeping}
+use Rattle.turn.specs.Ready.{Ready, Made, Renewed, members, passedIn}
 use Rattle.turn.specs.declared.Kind.{Kind}
 use Rattle.turn.specs.declared.Kind.the-variants.{Idle, Completed}
-use Rattle.turn.proofs.Making.{made-as, made-from}
+use Rattle.turn.proofs.Making.{made-as, made-kept, made-renewed}
 use Rattle.turn.proofs.Cursors.{passed-same}
 use Rattle.turn.proofs.Jobs.{lits-length}
+use Rattle.turn.proofs.Range.{mark-range}
+use Rattle.turn.proofs.Reached.{reached-members}
+use Rattle.turn.proofs.ThirdWords.{complete-kept}
 
--- what is reached stands in rising order
 module _ (j : Job) (t : List ℕ) where
-  abbrev Rising : List ℕ → Type 0
-  Rising s = s ≡ keep (λ d. isIn d s) (upto (j .claims))
-
-  spread-rising : (s : List ℕ) → Rising (spread j t s)
-  unfolding spread
-  spread-rising s = keep-members _ (upto (j .claims))
-
-  spreads-rising : (n : ℕ) (s : List ℕ) → Rising s → Rising (spreads n j t s)
-  unfolding spreads
-  spreads-rising zero s h = h
-  spreads-rising (suc n) s h = spreads-rising n (spread j t s) (spread-rising s)
-
-  some-rising : (n : ℕ) (s : List ℕ) → 0 < n → Rising (spreads n j t s)
-  unfolding spreads
-  some-rising zero s h = absurd (omega arith)
-  some-rising (suc n) s h = spreads-rising n (spread j t s) (spread-rising s)
-
-  pub reached-rising : (c : ℕ) → c < j .claims → Rising (reached j t c)
-  unfolding reached
-  reached-rising c h = some-rising (j .claims) (c ∷ []) (omega arith)
-
   pub members-reached : (c : ℕ) → c < j .claims → (seen : List ℕ) → length seen ≡ j .claims → ((d : ℕ) → setOf seen d ≡ isIn d (reached j t c)) → members seen ≡ reached j t c
   unfolding members
   members-reached c h seen long is =
       ap (λ (n : ℕ). keep (setOf seen) (upto n)) long
-      ∙ (keep-same (setOf seen) (λ d. isIn d (reached j t c)) (upto (j .claims)) (λ d i. is d) ∙ sym (reached-rising c h))
+      ∙ (keep-same (setOf seen) (λ d. isIn d (reached j t c)) (upto (j .claims)) (λ d i. is d) ∙ sym (reached-members j t c h))
 
 -- tests and marks that agree on a list
 every-same : (p q : ℕ → Bool) (s : List ℕ) → ((d : ℕ) → In d s → p d ≡ q d) → every p s ≡ every q s
@@ -77,27 +59,12 @@ marks-same f g (x ∷ s) t h =
     ap (λ (v : ℕ). markAll f s (set t (markWord x) v)) (h x (in-head x s)) ∙ marks-same f g s (set t (markWord x) (g x)) (λ d i. h d (in-tail d x s i))
 
 -- the newest of some claims is one of them
-data Of (s : List ℕ) : ℕ → Type 0 where
-  none : Of s 0
-  one : (d : ℕ) → In d s → Of s (suc d)
-
-of-more : (x : ℕ) (s : List ℕ) {n : ℕ} → Of s n → Of (x ∷ s) n
-of-more x s none = none
-of-more x s (one d i) = one d (in-tail d x s i)
-
-newest-of : (t s : List ℕ) → Of s (newest t s)
-unfolding newest
-newest-of t [] = none
-newest-of t (x ∷ s) =
-    pick-elim (Of (x ∷ s)) (eqb (newest t s) 0) (λ h. one x (in-head x s))
-    (λ h. pick-elim (Of (x ∷ s)) (ltb (number t (newest t s - 1)) (number t x)) (λ k. one x (in-head x s)) (λ k. of-more x s (newest-of t s)))
-
-of-in : (s : List ℕ) {n : ℕ} → Of s n → (n ≡ 0 → ⊥) → In (n - 1) s
-of-in s none h = absurd (h refl)
-of-in s (one d i) h = let e : suc d - 1 ≡ d = omega arith in rw e i
-
 pub newest-in : (t s : List ℕ) {n : ℕ} → n ≡ newest t s → (n ≡ 0 → ⊥) → In (n - 1) s
-newest-in t s {n} e h = of-in s (subst⁻¹ (Of s) e (newest-of t s)) h
+newest-in t s {n} e h = go (newest-of t s)
+  where
+    go : NewestOf t (λ d. In d s) (newest t s) → In (n - 1) s
+    go (none z f) = absurd (h (e ∙ z))
+    go (some c z i f) = let q : n - 1 ≡ c = omega arith in rw q i
 
 -- members are claims
 member-low : (seen : List ℕ) (d : ℕ) → In d (members seen) → d < length seen
@@ -154,20 +121,32 @@ module _ (s index t : List ℕ) (r : Ready s index t) (w n : ℕ) (l : n < claim
       ap (λ (m : List ℕ). pick (every (λ d. owned t w d && allPassed j t d) m) (record { kind = Completed; table = markAll (completedMark j t) m t }) (pick (eqb (newest t (keep (λ d. owned t w d && not (allPassed j t d)) m)) 0) (record { kind = Idle; table = t }) (passTurn j t w (newest t (keep (λ d. owned t w d && not (allPassed j t d)) m) - 1)))) (sym are)
       ∙ ap₂ (λ (x : Bool) (y : List ℕ). pick x (record { kind = Completed; table = markAll (completedMark j t) (members seen) t }) (pick (eqb (newest t y) 0) (record { kind = Idle; table = t }) (passTurn j t w (newest t y - 1)))) a b
 
+  small : w < workers s → w < j .workers
+  small h = omega (arith, sizes s .workers-are)
+
+  -- the claims completed were w's, so no other worker's third word changes
+  all-own : done ≡ true → (d : ℕ) → In d (members seen) → mark t d ≡ w + 1
+  all-own e d i = eqb-true (mark t d) (w + 1) (and-both (owned t w d) (passedIn index t d) (is-true _ (every-in _ (members seen) (holds _ e) d i)) .0)
+
   module _ {z : Bool} (q : z ≡ done) where
-    pub work-completed : z ≡ true → {u : List ℕ} → u ≡ markAll (completedMark j t) (members seen) t → Made (workTurn j t w n) Completed u
-    work-completed e h = made-from h (made-as _ _ (parts ∙ pick-true _ _ _ (sym q ∙ e)))
+    pub work-completed : w < workers s → z ≡ true → {u : List ℕ} → Renewed j w (markAll (completedMark j t) (members seen) t) u → Made (keeping j (workTurn j t w n)) Completed u
+    work-completed h e {u} m =
+        made-renewed j w (sought (j .claims) (markAll (completedMark j t) (members seen) t) w) (small h)
+        (subst⁻¹ (NewestKept j) (m .is)
+        (complete-kept (r .newests) (small h) (completedMark j t) (members seen) (λ d i. omega (arith, sizes s .claims-are, low d i)) (all-own (sym q ∙ e))
+        (λ d. omega (arith, mark-range j t d .0, r .job .sized .workersMost, sizes s .workers-are)) (r .table .room)))
+        (m .is) (made-as _ _ (parts ∙ pick-true _ _ _ (sym q ∙ e)))
 
     module _ (no : z ≡ false) {k : ℕ} (x : k ≡ newest t toPass) where
       later : workTurn j t w n ≡ pick (eqb k 0) (record { kind = Idle; table = t }) (passTurn j t w (k - 1))
       later =
           parts ∙ (pick-false _ _ _ (sym q ∙ no) ∙ ap (λ (m : ℕ). pick (eqb m 0) (record { kind = Idle; table = t }) (passTurn j t w (m - 1))) (sym x))
 
-      pub work-idle : k ≡ 0 → Made (workTurn j t w n) Idle t
-      work-idle e = made-as _ _ (later ∙ pick-true _ _ _ (eq-eqb k 0 e))
+      pub work-idle : k ≡ 0 → Made (keeping j (workTurn j t w n)) Idle t
+      work-idle e = made-kept j (r .newests) (made-as _ _ (later ∙ pick-true _ _ _ (eq-eqb k 0 e)))
 
-      pub work-passes : (k ≡ 0 → ⊥) → {y : Kind} {u : List ℕ} → Made (passTurn j t w (k - 1)) y u → Made (workTurn j t w n) y u
-      work-passes h {y} {u} m = subst⁻¹ (λ (v : Turned). Made v y u) (later ∙ pick-false _ _ _ (ne-eqb k 0 h)) m
+      pub work-passes : (k ≡ 0 → ⊥) → {y : Kind} {u : List ℕ} → Made (keeping j (passTurn j t w (k - 1))) y u → Made (keeping j (workTurn j t w n)) y u
+      work-passes h {y} {u} m = subst⁻¹ (λ (v : Turned). Made (keeping j v) y u) (later ∙ pick-false _ _ _ (ne-eqb k 0 h)) m
 
   -- the newest with a literal left is w's, and has one
   pub left-one : {k : ℕ} → k ≡ newest t toPass → (k ≡ 0 → ⊥) → (k - 1 < claims s) × (owned t w (k - 1) ≡ true) × (cursor t (k - 1) < length (lits j (k - 1)))

@@ -4,7 +4,7 @@
 --   meets-same        owners are followed alike in tables with the same marks and the same claims awaited
 --   opened-few        where a claim is fresh, not all are opened
 --   Passing           what was read of claim c and its next literal's claim b, and the table u with c's cursor moved on
---   moved-..          that table is in range, and what the rest of the turn needs of it
+--   moved-..          that table is in range with right third words, and what the rest of the turn needs of it
 --   pass-..           the turn, by the mark of b
 use Prim.Native.Nat.{ℕ, zero, suc, _+_, _-_, _≤_, _<_}
 use mathlib.Core.Path.{_≡_, refl, sym, _∙_, ap, ap₂, subst, subst⁻¹}
@@ -23,21 +23,23 @@ use Rattle.base.proofs.Choose.{pick-true, pick-false}
 use Rattle.base.proofs.Lists.{keep-same}
 use Rattle.base.proofs.Sets.{count-le, count-mono, count-less}
 use Rattle.base.proofs.Span.{getD-span}
-use Rattle.job.specs.Job.{Job, claimOf, literalsOf, mostClaims, mostLiterals}
+use Rattle.job.specs.Job.{Job, claimOf, literalsOf, mostClaims}
 use Rattle.job.specs.Format.{claims, rules, literals, workers, literalAt, jobOf}
 use Rattle.job.specs.Accepted.{WellFormed}
 use Rattle.job.specs.Claims.{claimStart, Index, moved}
 use Rattle.job.specs.declared.Cursor.{Cursor}
 use Rattle.job.proofs.Contiguous.{claim-literals}
-use Rattle.table.specs.Layout.{opened, markWord, cursorWord, numberWord, mark, cursor, number, awaitedWord, awaited, answerWord, fresh, answeredAt, awaitedAt, openedWord, trueMark, undefinedMark, workersFrom}
+use Rattle.table.specs.Layout.{opened, markWord, cursorWord, numberWord, mark, cursor, number, awaitedWord, awaited, newestWord, kept, answerWord, fresh, answeredAt, awaitedAt, newestAt, openedWord, trueMark, undefinedMark, workersFrom}
+use Rattle.table.specs.Newest.{newer, withNewest, NewestKept}
 use Rattle.table.specs.Ranges.{marked, ClaimInRange, InRange}
 use Rattle.table.proofs.Sizes.{sizes}
-use Rattle.turn.specs.Turn.{Turned, lits, allPassed, clear, reached, openClaim, markAll, meets, passTurn}
+use Rattle.turn.specs.Turn.{Turned, lits, allPassed, clear, reached, openClaim, markAll, meets, passTurn, keeping}
 use Rattle.turn.specs.Ready.{Ready, Made, passedIn}
 use Rattle.turn.specs.declared.Kind.the-variants.{Opened, Waits, Took, Passed}
-use Rattle.turn.proofs.Making.{made-as, made-from}
+use Rattle.turn.proofs.Making.{made-as, made-from, made-kept, made-with, made-renewed}
 use Rattle.turn.proofs.Following.{room, open-owner}
 use Rattle.turn.proofs.Jobs.{lits-length}
+use Rattle.turn.proofs.ThirdWords.{await-kept, cursor-kept, open-kept}
 use Rattle.turn.proofs.Gathering.{lits-span}
 
 module _ (s index : List ℕ) (f : WellFormed s) (x : Index s index) (c : ℕ) (l : c < claims s) where
@@ -59,9 +61,6 @@ module _ (s index : List ℕ) (f : WellFormed s) (x : Index s index) (c : ℕ) (
 
     next-low : claimStart s c + n < literals s
     next-low = omega (arith, within, claim-literals s f c .within)
-
-    pub next-few : n ≤ mostLiterals
-    next-few = omega (arith, next-low, f .sized .literalsMost)
 
     module _ {p : ℕ} (q : p ≡ n) {k : Cursor} (e : k ≡ record { at = getD index c 0 + p; end = getD index (c + 1) 0 }) where
       at-is : k .at ≡ claimStart s c + n
@@ -193,8 +192,11 @@ module _ {s t : List ℕ} {w c p b m : ℕ} {u : List ℕ} (g : Passing s t w c 
     pub moved-owner : (m ≡ 0 → ⊥) → m < trueMark → m - 1 < workers s
     moved-owner n h = let k = g .read in omega (arith, open-owner s t r b (g .low) (omega arith))
 
+  pub moved-kept : NewestKept (jobOf s) t → NewestKept (jobOf s) u
+  moved-kept k = subst⁻¹ (NewestKept (jobOf s)) (g .stored) (cursor-kept k c (p + 1) (omega (arith, sizes s .claims-are, g .claim)))
+
   pub moved-ready : {index : List ℕ} → Ready s index t → Ready s index u
-  moved-ready r = record { job = r .job; indexed = r .indexed; table = moved-range (r .job) (r .table) }
+  moved-ready r = record { job = r .job; indexed = r .indexed; table = moved-range (r .job) (r .table); newests = moved-kept (r .newests) }
 
 -- the turn, by what was read
 abbrev byParts : Job → ℕ → ℕ → ℕ → List ℕ → Bool → List ℕ → Turned
@@ -223,27 +225,42 @@ module _ {s t : List ℕ} {w c p b m : ℕ} {u : List ℕ} (g : Passing s t w c 
       ∙ ap₂ (byParts j w b m u) (sym (meets-same j t u (marks g) (awaits g) (j .workers) w (m - 1)))
       (keep-same (λ d. not (fresh t d)) (λ d. not (fresh u d)) (reached j u c) (λ d i. sym (fresh-same j t u (marks g) (awaits g) d)))))
 
-  pub pass-complete : trueMark ≤ m → Made (passTurn j t w c) Passed u
-  pass-complete h = made-as _ _ (parts ∙ pick-true _ _ _ (le-leb trueMark m h))
+  module _ (k : NewestKept j t) where
+    pub pass-complete : trueMark ≤ m → Made (keeping j (passTurn j t w c)) Passed u
+    pass-complete h = made-kept j (moved-kept g k) (made-as _ _ (parts ∙ pick-true _ _ _ (le-leb trueMark m h)))
 
-  module _ (l : m < trueMark) where
-    pub pass-own : m ≡ w + 1 → Made (passTurn j t w c) Passed u
-    pass-own e = made-as _ _ (parts ∙ (pick-false _ _ _ (lt-leb trueMark m l) ∙ pick-true _ _ _ (eq-eqb m (w + 1) e)))
+    module _ (l : m < trueMark) where
+      pub pass-own : m ≡ w + 1 → Made (keeping j (passTurn j t w c)) Passed u
+      pass-own e = made-kept j (moved-kept g k) (made-as _ _ (parts ∙ (pick-false _ _ _ (lt-leb trueMark m l) ∙ pick-true _ _ _ (eq-eqb m (w + 1) e))))
 
-    module _ (n : m ≡ w + 1 → ⊥) where
-      pub pass-fresh : m ≡ 0 → {y : List ℕ} → y ≡ openClaim u w b → Made (passTurn j t w c) Opened y
-      pass-fresh e q = made-from q (made-as _ _ (parts ∙ (pick-false _ _ _ (lt-leb trueMark m l) ∙ (pick-false _ _ _ (ne-eqb m (w + 1) n) ∙ pick-true _ _ _ (eq-eqb m 0 e)))))
+      module _ (n : m ≡ w + 1 → ⊥) {a : ℕ} (a-is : a ≡ claims s) where
+        same-count : a ≡ j .claims
+        same-count = a-is ∙ sym (sizes s .claims-are)
 
-      module _ (o : m ≡ 0 → ⊥) {z : Bool} (q : z ≡ meets (workers s) j u w (m - 1)) where
-        to-other : passTurn j t w c ≡ pick z (record { kind = Took; table = markAll (λ d. w + 1) (taken j u u c) u }) (record { kind = Waits; table = set u (awaitedWord j w) (b + 1) })
-        to-other =
-            parts ∙ (pick-false _ _ _ (lt-leb trueMark m l) ∙ (pick-false _ _ _ (ne-eqb m (w + 1) n) ∙ (pick-false _ _ _ (ne-eqb m 0 o)
-            ∙ ap (λ (x : Bool). pick x (record { kind = Took; table = markAll (λ d. w + 1) (taken j u u c) u }) (record { kind = Waits; table = set u (awaitedWord j w) (b + 1) }))
-            (ap (λ (k : ℕ). meets k j u w (m - 1)) (sizes s .workers-are) ∙ sym q))))
+        -- the third word that is stored, in a table for a claims
+        pub pass-fresh : m ≡ 0 → WellFormed s → InRange j t → {y : List ℕ} → y ≡ set (openClaim u w b) (newestAt a w) (newer (openClaim u w b) b (getD u (newestAt a w) 0)) → Made (keeping j (passTurn j t w c)) Opened y
+        pass-fresh e f r {y} q =
+            let v = newer (openClaim u w b) b (kept j u w) in
+            let small : w < j .workers = omega (arith, sizes s .workers-are, g .worker) in
+            let q′ : y ≡ set (openClaim u w b) (newestWord j w) v =
+            q ∙ ap (λ (x : ℕ). set (openClaim u w b) (newestAt x w) (newer (openClaim u w b) b (getD u (newestAt x w) 0))) same-count in
+            made-renewed j w v small
+            (subst⁻¹ (NewestKept j) q′ (open-kept (moved-kept g k) small (omega (arith, sizes s .claims-are, g .low)) (marks g b ∙ (sym (g .read) ∙ e)) (moved-range g f r .room))) q′
+            (made-as _ _ (parts ∙ (pick-false _ _ _ (lt-leb trueMark m l) ∙ (pick-false _ _ _ (ne-eqb m (w + 1) n) ∙ pick-true _ _ _ (eq-eqb m 0 e)))))
 
-        pub pass-took : z ≡ true → {y : List ℕ} → y ≡ markAll (λ d. w + 1) (taken j u u c) u → Made (passTurn j t w c) Took y
-        pass-took e h = made-from h (made-as _ _ (to-other ∙ pick-true _ _ _ e))
+        module _ (o : m ≡ 0 → ⊥) {z : Bool} (q : z ≡ meets (workers s) j u w (m - 1)) where
+          to-other : passTurn j t w c ≡ pick z (record { kind = Took; table = markAll (λ d. w + 1) (taken j u u c) u }) (record { kind = Waits; table = set u (awaitedWord j w) (b + 1) })
+          to-other =
+              parts ∙ (pick-false _ _ _ (lt-leb trueMark m l) ∙ (pick-false _ _ _ (ne-eqb m (w + 1) n) ∙ (pick-false _ _ _ (ne-eqb m 0 o)
+              ∙ ap (λ (x : Bool). pick x (record { kind = Took; table = markAll (λ d. w + 1) (taken j u u c) u }) (record { kind = Waits; table = set u (awaitedWord j w) (b + 1) }))
+              (ap (λ (k : ℕ). meets k j u w (m - 1)) (sizes s .workers-are) ∙ sym q))))
 
-        pub pass-waits : z ≡ false → {k : ℕ} → k ≡ claims s → {y : List ℕ} → y ≡ set u (awaitedAt k w) (b + 1) → Made (passTurn j t w c) Waits y
-        pass-waits e {k} a h =
-            made-from (h ∙ ap (λ (x : ℕ). set u (awaitedAt x w) (b + 1)) (a ∙ sym (sizes s .claims-are))) (made-as _ _ (to-other ∙ pick-false _ _ _ e))
+          pub pass-took : z ≡ true → {y : List ℕ} → y ≡ withNewest (claims s) (workers s) (markAll (λ d. w + 1) (taken j u u c) u) → Made (keeping j (passTurn j t w c)) Took y
+          pass-took e h =
+              made-with j (h ∙ ap₂ (λ (x v : ℕ). withNewest x v (markAll (λ d. w + 1) (taken j u u c) u)) (sym (sizes s .claims-are)) (sym (sizes s .workers-are)))
+              (made-as _ _ (to-other ∙ pick-true _ _ _ e))
+
+          pub pass-waits : z ≡ false → {y : List ℕ} → y ≡ set u (awaitedAt a w) (b + 1) → Made (keeping j (passTurn j t w c)) Waits y
+          pass-waits e {y} h =
+              let h′ : y ≡ set u (awaitedWord j w) (b + 1) = h ∙ ap (λ (x : ℕ). set u (awaitedAt x w) (b + 1)) same-count in
+              made-kept j (subst⁻¹ (NewestKept j) h′ (await-kept (moved-kept g k) w (b + 1))) (made-from h′ (made-as _ _ (to-other ∙ pick-false _ _ _ e)))

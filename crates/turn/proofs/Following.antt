@@ -12,7 +12,7 @@ use Rattle.base.specs.Choose.{pick}
 use Rattle.job.specs.Job.{Job, mostWorkers}
 use Rattle.job.specs.Format.{claims, workers, questions, jobOf}
 use Rattle.table.proofs.Sizes.{words-room}
-use Rattle.table.specs.Layout.{mark, awaited, answered, answerAt, answeredAt, awaitedAt, trueMark, undefinedMark}
+use Rattle.table.specs.Layout.{mark, awaited, answered, kept, answerAt, answeredAt, awaitedAt, newestAt, trueMark, undefinedMark}
 use Rattle.table.specs.Ranges.{InRange}
 use Rattle.turn.specs.Turn.{meets}
 
@@ -82,6 +82,10 @@ module _ (s t : List ℕ) (r : InRange (jobOf s) t) where
 pub awaited-read : (s t : List ℕ) {n : ℕ} (w : ℕ) {r : ℕ} → n ≡ claims s → r ≡ getD t (awaitedAt n w) 0 → r ≡ awaited (jobOf s) t w
 unfolding jobOf
 awaited-read s t w e f = f ∙ ap (λ (x : ℕ). getD t (awaitedAt x w) 0) e
+
+pub newest-read : (s t : List ℕ) {n : ℕ} (w : ℕ) {r : ℕ} → n ≡ claims s → r ≡ getD t (newestAt n w) 0 → r ≡ kept (jobOf s) t w
+unfolding jobOf
+newest-read s t w e f = f ∙ ap (λ (x : ℕ). getD t (newestAt x w) 0) e
 
 pub answered-read : (s t : List ℕ) {n : ℕ} (w : ℕ) {r : ℕ} → n ≡ claims s → r ≡ getD t (answeredAt n w) 0 → r ≡ answered (jobOf s) t w
 unfolding jobOf

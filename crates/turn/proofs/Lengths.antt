@@ -6,7 +6,8 @@ use lib.ListN.{length, getD, set, length-set}
 use Rattle.job.specs.Job.{Job}
 use Rattle.table.specs.Questions.{askedBy}
 use Rattle.table.specs.Layout as W
-use Rattle.turn.specs.Turn.{Turned, reached, completedMark, openClaim, markAll, turn, skipEnd}
+use Rattle.table.proofs.Keeping.{with-length}
+use Rattle.turn.specs.Turn.{Turned, reached, completedMark, openClaim, markAll, baseTurn, turn, skipEnd}
 use Rattle.turn.proofs.Cases.{literal, moved, taken, asked, Case, wakes, sleeps, rests, answers, opens-asked, waits-asked, completes, sticks, passes, skips, opens, takes, waits, turn-case}
 
 pub open-length : (t : List ℕ) (w c : ℕ) → length (openClaim t w c) ≡ length t
@@ -45,4 +46,5 @@ module _ (j : Job) (t : List ℕ) (w : ℕ) where
   case-length r (waits {c = c} a b m f) = length-set (moved t c) (W.awaitedWord j w) (literal j t c + 1) ∙ moved-length c
 
   pub turn-length : length (turn j t w .table) ≡ length t
-  turn-length = case-length (turn j t w) (turn-case j t w)
+  unfolding turn
+  turn-length = with-length (j .claims) (baseTurn j t w .table) (j .workers) ∙ case-length (baseTurn j t w) (turn-case j t w)

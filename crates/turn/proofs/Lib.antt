@@ -1,7 +1,6 @@
 pub mod Worked
 pub mod Sweeps
 pub mod Following
-pub mod NextQuestion
 pub mod Marking
 pub mod PutQuestion
 pub mod WholeTurn
@@ -15,12 +14,12 @@ pub mod Making
 pub mod Behind
 pub mod Walk
 pub mod Leading
-pub mod NewestOf
 pub mod Cases
 pub mod Words
 pub mod Lengths
 pub mod RangeStores
 pub mod Range
+pub mod ThirdWords
 pub mod Cursors
 pub mod Skipping
 pub mod Completing

@@ -9,7 +9,7 @@ use lib.Seq.{getD-set-other}
 use Rattle.base.specs.Lists.{upto, keep}
 use Rattle.table.specs.Layout.{mark, markWord}
 use Rattle.turn.specs.Turn.{markAll}
-use Rattle.turn.proofs.Sweeps.{from, keep-next, keep-skip, keep-end}
+use Rattle.table.proofs.Searching.{from, keep-next, keep-skip, keep-end}
 
 -- up to claim c of n, the table t₀ has become t: what is still to be marked makes of t what all makes of t₀
 pub record Marks (f : ℕ → ℕ) (p : ℕ → Bool) (n : ℕ) (t₀ : List ℕ) (c : ℕ) (t : List ℕ) : Type 0 where

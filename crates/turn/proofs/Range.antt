@@ -1,9 +1,9 @@
--- A turn leaves a table in range, whatever table in range it is made on: a run checks its table once. Assumes nothing.
+-- A turn leaves a table in range with right third words, whatever table in range it is made on: a run checks its table once. Assumes nothing.
 use mathlib.Core.Path.{_≡_, sym, _∙_}
 use mathlib.Core.Logic.{inl, inr, ⊎-elim}
 use mathlib.Core.Bool.{not}
 use mathlib.Core.List.{List}
-use Prim.Native.Nat.{ℕ, _+_, _≤_, _<_}
+use Prim.Native.Nat.{ℕ, zero, suc, _+_, _≤_, _<_}
 use native.Mathlib.Omega.{arith}
 use lib.ListN.{length}
 use Rattle.base.proofs.Lists.{keep-in}
@@ -11,8 +11,10 @@ use Rattle.job.specs.Job.{Job}
 use Rattle.semantics.specs.Model.{programOf, Verdict, True, False, Undefined, verdict, byteOf, exchange, knownOf}
 use Rattle.table.specs.Questions.{askedBy}
 use Rattle.table.specs.Layout as W
+use Rattle.table.specs.Newest.{withNewest, NewestKept}
 use Rattle.table.specs.Ranges.{InRange}
-use Rattle.turn.specs.Turn.{Turned, lits, reached, completedMark, markAll, turn}
+use Rattle.table.proofs.Keeping.{with-kept}
+use Rattle.turn.specs.Turn.{Turned, lits, reached, completedMark, markAll, baseTurn, turn}
 use Rattle.turn.proofs.Tests.{not-eq}
 use Rattle.turn.proofs.Jobs.{JobOk, lits-length}
 use Rattle.turn.proofs.Places.{place-low}
@@ -138,5 +140,33 @@ module _ {j : Job} (J : JobOk j) {t : List ℕ} (R : InRange j t) {w : ℕ} (sma
   case-range r (takes a b m f) = took-range a
   case-range r (waits a b m f) = store-range (moved-range a) (await-fits small (omega (arith, b-low a)))
 
-pub turn-in-range : {j : Job} {t : List ℕ} {w : ℕ} → JobOk j → InRange j t → w < j .workers → InRange j (turn j t w .table)
-turn-in-range {j} {t} {w} J R small = case-range J R small (turn j t w) (turn-case j t w)
+-- and so does `withNewest`, which makes its third words right
+newest-fits : {j : Job} {t : List ℕ} {w v : ℕ} → w < j .workers → Fits j t (W.newestWord j w) v
+newest-fits small =
+    record {
+      from = omega arith;
+      below = omega arith;
+      mark = λ c h e. absurd (omega arith);
+      cursor = λ c h e. absurd (omega arith);
+      number = λ c h e. omega arith;
+      awaits = λ u h e. absurd (omega arith);
+      answers = λ u h e. absurd (omega arith);
+      values = λ i h e. absurd (omega arith);
+    }
+
+with-range : {j : Job} {t : List ℕ} (n : ℕ) → n ≤ j .workers → InRange j t → InRange j (withNewest (j .claims) n t)
+unfolding withNewest
+with-range zero l R = R
+with-range (suc w) l R = store-range (with-range w (omega arith) R) (newest-fits (omega arith))
+
+module _ {j : Job} {t : List ℕ} {w : ℕ} (J : JobOk j) (R : InRange j t) (small : w < j .workers) where
+  pub base-range : InRange j (baseTurn j t w .table)
+  base-range = case-range J R small (baseTurn j t w) (turn-case j t w)
+
+  pub turn-in-range : InRange j (turn j t w .table)
+  unfolding turn
+  turn-in-range = with-range (j .workers) (omega arith) base-range
+
+  pub turn-kept : NewestKept j (turn j t w .table)
+  unfolding turn
+  turn-kept = with-kept j (baseTurn j t w .table) (omega (arith, base-range .room))

@@ -4,7 +4,7 @@
 --   pass-skipped     the turn where an earlier literal of the rule is complete and false: the cursor past the rule; skip-low   its place is small
 --   pass-clear       none is, where none was found
 use Prim.Native.Nat.{ℕ, _+_, _-_, _≤_, _<_}
-use mathlib.Core.Path.{_≡_, sym, _∙_, ap, ap₂, subst}
+use mathlib.Core.Path.{_≡_, sym, _∙_, ap, ap₂, subst, subst⁻¹}
 use mathlib.Core.Bool.{Bool, true, false, not}
 use mathlib.Core.List.{List}
 use mathlib.Core.Logic.{by-cases}
@@ -24,12 +24,15 @@ use Rattle.job.proofs.Contiguous.{claim-literals}
 use Rattle.job.proofs.RuleEnds.{end-same, end-more, end-most}
 use Rattle.job.proofs.IndexEnds.{end-here-in, end-next-in}
 use Rattle.table.specs.Layout.{markWord, cursorWord, cursor}
-use Rattle.turn.specs.Turn.{lits, litAt, failed, clear, passTurn}
+use Rattle.table.specs.Newest.{NewestKept}
+use Rattle.table.proofs.Sizes.{sizes}
+use Rattle.turn.specs.Turn.{lits, litAt, failed, clear, passTurn, keeping}
 use Rattle.turn.specs.Ready.{Ready, Made}
 use Rattle.turn.specs.declared.Kind.the-variants.{Passed}
 use Rattle.turn.proofs.Jobs.{lits-length}
 use Rattle.turn.proofs.Following.{room}
-use Rattle.turn.proofs.Making.{made-as, made-from}
+use Rattle.turn.proofs.Making.{made-as, made-from, made-kept}
+use Rattle.turn.proofs.ThirdWords.{cursor-kept}
 use Rattle.turn.proofs.Behind.{Behind, clear-not, clear-of}
 use Rattle.turn.proofs.Walk.{lit-is, end-is}
 
@@ -162,9 +165,10 @@ module _ (s index t : List ℕ) (r : Ready s index t) (w c : ℕ) (h : c < claim
         let a = r .indexed .starts c (omega arith) in
         (omega (arith, skip-at), omega (arith, skip-at, n .count, n .within, n .ordered, r .job .sized .literalsMost))
 
-    pub pass-skipped : o ≡ true → {y : List ℕ} → y ≡ set t (cursorWord c) (u .at - getD index c 0) → Made (passTurn (jobOf s) t w c) Passed y
+    pub pass-skipped : o ≡ true → {y : List ℕ} → y ≡ set t (cursorWord c) (u .at - getD index c 0) → Made (keeping (jobOf s) (passTurn (jobOf s) t w c)) Passed y
     unfolding passTurn
     pass-skipped d {y} z =
         let n : clear (jobOf s) t c (cursor t c) ≡ false = not-true _ (sym here-is ∙ d) in
         let m : u .at - getD index c 0 ≡ ruleEnd c (jobOf s .rules) (cursor t c) = omega (arith, skip-at, r .indexed .starts c (omega arith)) in
-        made-from (z ∙ ap (set t (cursorWord c)) m) (made-as _ _ (pick-false _ _ _ n))
+        let q : y ≡ set t (cursorWord c) (ruleEnd c (jobOf s .rules) (cursor t c)) = z ∙ ap (set t (cursorWord c)) m in
+        made-kept (jobOf s) (subst⁻¹ (NewestKept (jobOf s)) q (cursor-kept (r .newests) c _ (omega (arith, sizes s .claims-are)))) (made-from q (made-as _ _ (pick-false _ _ _ n)))

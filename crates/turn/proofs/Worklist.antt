@@ -5,7 +5,7 @@
 --   visit-room, push-room   where there is room on the stack
 --   visits-grown         the claims bs met, in order
 --   Expanding            a loop over a cursor's claims, with its laws: expanding-start, -less, -more, -done
-use Prim.Native.Nat.{ℕ, _+_, _-_, _≤_, _<_}
+use Prim.Native.Nat.{ℕ, _+_, _≤_, _<_}
 use mathlib.Core.Path.{_≡_, refl, sym, _∙_, ap, subst, subst⁻¹}
 use mathlib.Core.Bool.{true, false, not}
 use mathlib.Core.List.{List, [], _∷_}

@@ -8,13 +8,14 @@
 --   skipEnd j t c     where the rule of c's next literal ends among c's literals
 --   leading j t c k   c has passed its literal k, and it stands behind no false one
 --   leads j t c       what c leads to; reached j t c   all that is reached from c, in rising order
---   newest t cs       the newest of some claims + 1, or 0 where there is none
 --   allPassed j t c   c has passed all its literals
 --   completedMark     the mark that completion gives
 --   openClaim t w c   c becomes open to w
 --   markAll f cs t    the claims cs get the marks f
 --   meets n j t w v   from v along the owners of awaited claims, at most n moves, w is met (following suspended workers)
---   askTurn, workTurn, passTurn   the second, third and fourth bullet; turn j t w   the whole turn
+--   askTurn, workTurn, passTurn   the second, third and fourth bullet; baseTurn j t w   the whole turn as 01 has it
+--   keeping j r       the turn r, and then every worker's third word is what a search finds
+--   turn j t w        a turn
 --   runTable, runKinds            turns one after the other
 -- Awaiting: suspended. Taking over: usurpation.
 use Prim.Native.Nat.{ℕ, zero, suc, _+_, _-_}
@@ -29,7 +30,8 @@ use Rattle.job.specs.declared.Literal.{Literal}
 use Rattle.job.specs.declared.Literal.the-variants.{Plain, Negated}
 use Rattle.semantics.specs.Model.{programOf, verdict, exchange, knownOf}
 use Rattle.table.specs.Questions.{askedBy, questionClaim}
-use Rattle.table.specs.Layout.{opened, markWord, cursorWord, numberWord, mark, cursor, number, awaitedWord, answeredWord, awaited, answered, answerWord, fresh, owned, complete, valueOf, markOf, values, falseMark, trueMark}
+use Rattle.table.specs.Newest.{newest, sought, withNewest}
+use Rattle.table.specs.Layout.{opened, markWord, cursorWord, numberWord, mark, cursor, awaitedWord, answeredWord, awaited, answered, answerWord, fresh, owned, complete, valueOf, markOf, values, falseMark, trueMark}
 use Rattle.turn.specs.declared.Kind.{Kind}
 use Rattle.turn.specs.declared.Kind.the-variants.{Idle, Woke, Opened, Waits, Took, Passed, Completed, Answered}
 
@@ -90,12 +92,6 @@ spreads (suc n) j t s = spreads n j t (spread j t s)
 
 unfoldable pub reached : Job → List ℕ → ℕ → List ℕ
 reached j t c = spreads (j .claims) j t (c ∷ [])
-
--- "highest opening number, then highest claim": the later of two that have the same number
-unfoldable pub newest : List ℕ → List ℕ → ℕ
-unfolding pick
-newest t [] = 0
-newest t (c ∷ cs) = let b = newest t cs in pick (eqb b 0) (suc c) (pick (ltb (number t (b - 1)) (number t c)) (suc c) b)
 
 unfoldable pub allPassed : Job → List ℕ → ℕ → Bool
 allPassed j t c = eqb (cursor t c) (length (lits j c))
@@ -170,14 +166,22 @@ workTurn j t w n =
     (pick (eqb left 0) (record { kind = Idle; table = t }) (passTurn j t w (left - 1)))
 
 -- "First that applies": "w awaits a claim: complete, the wait is cleared, woke; else idle." "N is w's newest open claim"
-unfoldable pub turn : Job → List ℕ → ℕ → Turned
+unfoldable pub baseTurn : Job → List ℕ → ℕ → Turned
 unfolding pick
-turn j t w =
+baseTurn j t w =
     let a = awaited j t w in
-    let n = newest t (keep (owned t w) (upto (j .claims))) in
+    let n = sought (j .claims) t w in
     pick (eqb a 0)
     (pick (eqb n 0) (askTurn j t w) (workTurn j t w (n - 1)))
     (pick (complete t (a - 1)) (record { kind = Woke; table = set t (awaitedWord j w) 0 }) (record { kind = Idle; table = t }))
+
+-- (02, order 3) "Each worker record gets a third word: its newest open claim + 1, or 0. Opening, takeover and completion keep it right for every
+-- worker touched, losers included.": whatever the turn did, every third word is then what a search finds
+abbrev pub keeping : Job → Turned → Turned
+keeping j r = record { kind = r .kind; table = withNewest (j .claims) (j .workers) (r .table) }
+
+unfoldable pub turn : Job → List ℕ → ℕ → Turned
+turn j t w = keeping j (baseTurn j t w)
 
 unfoldable pub runTable : Job → List ℕ → List ℕ → List ℕ
 runTable j t [] = t

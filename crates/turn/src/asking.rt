@@ -1,25 +1,28 @@
 // The turn of a worker that owns nothing open: its next question. The contracts cite `askTurn` of specs/Turn.
 ghost use mathlib.Core.Path.{_≡_};
-ghost use Prim.Native.Nat.{_+_, _<_};
-ghost use Rattle.job.specs.Format.{workers as workersOf, questions as questionsOf, jobOf};
+ghost use Prim.Native.Nat.{_<_};
+ghost use lib.ListN.{length, getD};
+ghost use Rattle.job.specs.Format.{workers as workersOf, jobOf};
 ghost use Rattle.job.specs.Accepted.{WellFormed};
 ghost use Rattle.table.specs.Layout.{answered as answeredOf};
+ghost use Rattle.table.specs.Questions.{askedBy, Listed};
 ghost use Rattle.table.specs.Ranges.{InRange};
-ghost use Rattle.turn.specs.Turn.{askTurn};
-ghost use Rattle.turn.specs.Ready.{Made, nextQuestion};
+ghost use Rattle.table.specs.Newest.{NewestKept};
+ghost use Rattle.turn.specs.Turn.{keeping, askTurn};
+ghost use Rattle.turn.specs.Ready.{Made};
 use crate::Kind;
-use crate::Next;
 use crate::marks;
-use crate::questions;
 use job::format;
+use table::QuestionIndex;
+use table::questions;
 use table::stores;
 use table::words;
 
 // Worker w puts its question n, which stands at position k.
 fn ask(job: &[u8], table: &mut [u32], w: usize, n: usize, k: usize) -> Kind
-    requires { ⌜ WellFormed (now job) × InRange (jobOf (now job)) (now table) × (w < workersOf (now job)) ⌝ }
-    requires { ⌜ (n ≡ answeredOf (jobOf (now job)) (now table) w) × (k < questionsOf (now job)) × (Next.At k ≡ nextQuestion (jobOf (now job)) w n) ⌝ }
-    ensures { λ r. ⌜ Made (askTurn (jobOf (now (job .entry))) (now (table .entry)) w) r (now (table .exit)) ⌝ }
+    requires { ⌜ WellFormed (now job) × InRange (jobOf (now job)) (now table) × (w < workersOf (now job)) × NewestKept (jobOf (now job)) (now table) ⌝ }
+    requires { ⌜ (n ≡ answeredOf (jobOf (now job)) (now table) w) × (n < length (askedBy (jobOf (now job)) w)) × (k ≡ getD (askedBy (jobOf (now job)) w) n 0) ⌝ }
+    ensures { λ r. ⌜ Made (keeping (jobOf (now (job .entry))) (askTurn (jobOf (now (job .entry))) (now (table .entry)) w)) r (now (table .exit)) ⌝ }
 {
     let claims = format::claim_count(job);
     let question = format::question_at(job, format::rule_count(job), format::literal_count(job), k);
@@ -32,7 +35,7 @@ fn ask(job: &[u8], table: &mut [u32], w: usize, n: usize, k: usize) -> Kind
         return Kind::Answered;
     }
     if mark == 0 {
-        marks::open_claim(table, w, claim);
+        marks::open_newest(table, claims, w, claim);
         return Kind::Opened;
     }
     stores::set_awaited(table, claims, w, claim + 1);
@@ -40,15 +43,15 @@ fn ask(job: &[u8], table: &mut [u32], w: usize, n: usize, k: usize) -> Kind
 }
 
 // The turn of worker w, which awaits nothing and owns nothing open.
-pub fn ask_turn(job: &[u8], table: &mut [u32], w: usize) -> Kind
-    requires { ⌜ WellFormed (now job) × InRange (jobOf (now job)) (now table) × (w < workersOf (now job)) ⌝ }
-    ensures { λ r. ⌜ Made (askTurn (jobOf (now (job .entry))) (now (table .entry)) w) r (now (table .exit)) ⌝ }
+pub fn ask_turn(job: &[u8], asked: &QuestionIndex, table: &mut [u32], w: usize) -> Kind
+    requires { ⌜ Listed (jobOf (now job)) (now asked) ⌝ }
+    requires { ⌜ WellFormed (now job) × InRange (jobOf (now job)) (now table) × (w < workersOf (now job)) × NewestKept (jobOf (now job)) (now table) ⌝ }
+    ensures { λ r. ⌜ Made (keeping (jobOf (now (job .entry))) (askTurn (jobOf (now (job .entry))) (now (table .entry)) w)) r (now (table .exit)) ⌝ }
 {
     let claims = format::claim_count(job);
     let n = words::answered_at(table, claims, w);
-    let next = questions::next_question(job, w, n);
-    match next {
-        Next::At(k) => ask(job, table, w, n, k),
-        Next::Nothing => Kind::Idle,
+    if questions::asked_count(asked, w) <= n {
+        return Kind::Idle;
     }
+    ask(job, table, w, n, questions::asked_at(asked, w, n))
 }

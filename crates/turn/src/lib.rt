@@ -5,6 +5,8 @@ ghost use Prim.Native.Nat.{_<_};
 ghost use Rattle.job.specs.Format.{workers as workersOf, jobOf};
 ghost use Rattle.job.specs.Accepted.{WellFormed};
 ghost use Rattle.table.specs.Layout.{awaited as awaitedOf};
+ghost use Rattle.table.specs.Newest.{NewestKept};
+ghost use Rattle.table.specs.Questions.{Listed};
 ghost use Rattle.table.specs.Ranges.{InRange};
 ghost use Rattle.turn.specs.Turn.{turn};
 ghost use Rattle.turn.specs.Ready.{Ready, Made};
@@ -13,14 +15,14 @@ mod asking;
 mod failing;
 mod gather;
 mod marks;
-mod newest;
 mod owners;
 mod passing;
-mod questions;
+mod remaining;
 mod working;
 
 use job::ClaimIndex;
 use job::format;
+use table::QuestionIndex;
 use table::stores;
 use table::words;
 
@@ -36,15 +38,9 @@ pub enum Kind {
     Answered,
 }
 
-// A worker's next question, by its position in the file.
-pub enum Next {
-    At(usize),
-    Nothing,
-}
-
 // The turn of worker w, which awaits claim awaited - 1.
 fn wait_turn(job: &[u8], table: &mut [u32], w: usize, awaited: usize) -> Kind
-    requires { ⌜ WellFormed (now job) × InRange (jobOf (now job)) (now table) × (w < workersOf (now job)) ⌝ }
+    requires { ⌜ WellFormed (now job) × InRange (jobOf (now job)) (now table) × (w < workersOf (now job)) × NewestKept (jobOf (now job)) (now table) ⌝ }
     requires { ⌜ (0 < awaited) × (awaited ≡ awaitedOf (jobOf (now job)) (now table) w) ⌝ }
     ensures { λ r. ⌜ Made (turn (jobOf (now (job .entry))) (now (table .entry)) w) r (now (table .exit)) ⌝ }
 {
@@ -56,9 +52,16 @@ fn wait_turn(job: &[u8], table: &mut [u32], w: usize, awaited: usize) -> Kind
     Kind::Idle
 }
 
-// A turn of worker w.
-pub fn take_turn(job: &[u8], index: &ClaimIndex, table: &mut [u32], w: usize) -> Kind
+// A turn of worker w, with the job's indexes of claims and questions.
+pub fn take_turn(
+    job: &[u8],
+    index: &ClaimIndex,
+    asked: &QuestionIndex,
+    table: &mut [u32],
+    w: usize,
+) -> Kind
     requires { ⌜ Ready (now job) (now index) (now table) ⌝ }
+    requires { ⌜ Listed (jobOf (now job)) (now asked) ⌝ }
     requires { ⌜ w < workersOf (now job) ⌝ }
     ensures { λ r. ⌜ Made (turn (jobOf (now (job .entry))) (now (table .entry)) w) r (now (table .exit)) ⌝ }
 {
@@ -67,9 +70,9 @@ pub fn take_turn(job: &[u8], index: &ClaimIndex, table: &mut [u32], w: usize) ->
     if 0 < awaited {
         return wait_turn(job, table, w, awaited);
     }
-    let n = newest::newest_owned(table, claims, w);
+    let n = words::newest_at(table, claims, w);
     if n == 0 {
-        return asking::ask_turn(job, table, w);
+        return asking::ask_turn(job, asked, table, w);
     }
     working::work_turn(job, index, table, w, n - 1)
 }

@@ -3,21 +3,23 @@
 ghost use mathlib.Core.Path.{_≡_};
 ghost use mathlib.Core.Bool.{not, _&&_};
 ghost use Prim.Native.Nat.{ℕ, _+_, _≤_, _<_};
-ghost use lib.ListN.{length, getD};
+ghost use lib.ListN.{length, getD, set};
 ghost use Rattle.base.specs.Lists.{keep};
 ghost use Rattle.base.specs.Span.{span};
 ghost use Rattle.base.specs.Sets.{setOf};
 ghost use Rattle.job.specs.Job.{mostClaims, mostWorkers};
-ghost use Rattle.table.specs.Layout.{workersFrom, opened, mark, undefinedMark, fresh, valueOf, markOfValue};
+ghost use Rattle.table.specs.Layout.{workersFrom, newestAt, opened, mark, undefinedMark, fresh, valueOf, markOfValue};
+ghost use Rattle.table.specs.Newest.{newer};
 ghost use Rattle.turn.specs.Turn.{openClaim, markAll};
 ghost use Rattle.turn.specs.Ready.{members};
 use base::byte_sets;
 use base::wide;
+use table::newest;
 use table::stores;
 use table::words;
 
 // Claim c, fresh before, becomes open to w.
-pub fn open_claim(table: &mut [u32], w: usize, c: usize)
+fn open_claim(table: &mut [u32], w: usize, c: usize)
     requires { ⌜ (c < mostClaims) × (workersFrom (c + 1) ≤ length (now table)) × (w < mostWorkers) × (opened (now table) < mostClaims) ⌝ }
     ensures { λ r. ⌜ now (table .exit) ≡ openClaim (now (table .entry)) w c ⌝ }
 {
@@ -26,6 +28,18 @@ pub fn open_claim(table: &mut [u32], w: usize, c: usize)
     stores::set_mark(table, c, w + 1);
     stores::set_cursor(table, c, 0);
     stores::set_number(table, c, n);
+}
+
+// Claim c, fresh before, becomes open to w, whose newest claim is then the newer of c and the one it had.
+pub fn open_newest(table: &mut [u32], claims: usize, w: usize, c: usize)
+    requires { ⌜ (c < claims) × (claims ≤ mostClaims) × (newestAt claims w < length (now table)) × (w < mostWorkers) ⌝ }
+    requires { ⌜ (opened (now table) < mostClaims) × (getD (now table) (newestAt claims w) 0 ≤ claims) ⌝ }
+    ensures { λ r. ⌜ now (table .exit) ≡ set (openClaim (now (table .entry)) w c) (newestAt claims w) (newer (openClaim (now (table .entry)) w c) c (getD (now (table .entry)) (newestAt claims w) 0)) ⌝ }
+{
+    let best = words::newest_at(table, claims, w);
+    open_claim(table, w, c);
+    let found = newest::newer(table, c, best);
+    stores::set_newest(table, claims, w, found);
 }
 
 // Whether claim c is in the set and not fresh.

@@ -8,7 +8,8 @@ ghost use Rattle.job.specs.Accepted.{WellFormed};
 ghost use Rattle.job.specs.Job.{mostClaims, claimOf};
 ghost use Rattle.job.specs.Format.{claims, workers, rules, literals, literalAt, jobOf};
 ghost use Rattle.table.specs.Layout.{cursorWord, cursor, fresh, owned};
-ghost use Rattle.turn.specs.Turn.{lits, clear, reached, markAll, passTurn};
+ghost use Rattle.table.specs.Newest.{withNewest};
+ghost use Rattle.turn.specs.Turn.{lits, clear, reached, markAll, keeping, passTurn};
 ghost use Rattle.turn.specs.Ready.{Ready, Made};
 use crate::Kind;
 use crate::failing;
@@ -19,6 +20,7 @@ use job::ClaimIndex;
 use job::Cursor;
 use job::checks::MOST_CLAIMS;
 use job::format;
+use table::newest;
 use table::stores;
 use table::words;
 
@@ -46,21 +48,22 @@ fn move_to(index: &ClaimIndex, table: &mut [u32], c: usize, cursor: Cursor)
     stores::set_cursor(table, c, cursor.passed(index, c));
 }
 
-// Every open claim reached from c becomes w's, with room for what is reached.
+// Every open claim reached from c becomes w's, and one search serves the newest claims of all workers, with room for what is reached.
 fn take_in(job: &[u8], index: &ClaimIndex, table: &mut [u32], w: usize, c: usize, seen: &mut [u8])
     requires { ⌜ Ready (now job) (now index) (now table) ⌝ }
     requires { ⌜ (length (now seen) ≡ claims (now job)) × (c < claims (now job)) × (w < workers (now job)) ⌝ }
-    ensures { λ r. ⌜ now (table .exit) ≡ markAll (λ (d : ℕ). w + 1) (keep (λ (d : ℕ). not (fresh (now (table .entry)) d)) (reached (jobOf (now (job .entry))) (now (table .entry)) c)) (now (table .entry)) ⌝ }
+    ensures { λ r. ⌜ now (table .exit) ≡ withNewest (claims (now (job .entry))) (workers (now (job .entry))) (markAll (λ (d : ℕ). w + 1) (keep (λ (d : ℕ). not (fresh (now (table .entry)) d)) (reached (jobOf (now (job .entry))) (now (table .entry)) c)) (now (table .entry))) ⌝ }
 {
     gather::gather(job, index, table, c, seen);
     marks::take_members(seen, table, w);
+    newest::keep_newest(table, format::claim_count(job), format::worker_count(job));
 }
 
-// Every open claim reached from c becomes w's.
+// Every open claim reached from c becomes w's, and every worker's newest claim is sought.
 fn take_over(job: &[u8], index: &ClaimIndex, table: &mut [u32], w: usize, c: usize)
     requires { ⌜ Ready (now job) (now index) (now table) ⌝ }
     requires { ⌜ (c < claims (now job)) × (w < workers (now job)) ⌝ }
-    ensures { λ r. ⌜ now (table .exit) ≡ markAll (λ (d : ℕ). w + 1) (keep (λ (d : ℕ). not (fresh (now (table .entry)) d)) (reached (jobOf (now (job .entry))) (now (table .entry)) c)) (now (table .entry)) ⌝ }
+    ensures { λ r. ⌜ now (table .exit) ≡ withNewest (claims (now (job .entry))) (workers (now (job .entry))) (markAll (λ (d : ℕ). w + 1) (keep (λ (d : ℕ). not (fresh (now (table .entry)) d)) (reached (jobOf (now (job .entry))) (now (table .entry)) c)) (now (table .entry))) ⌝ }
 {
     let claims = format::claim_count(job);
     let mut seen = no_bytes();
@@ -73,7 +76,7 @@ fn pass_clear(job: &[u8], index: &ClaimIndex, table: &mut [u32], w: usize, c: us
     requires { ⌜ (c < claims (now job)) × (w < workers (now job)) ⌝ }
     requires { ⌜ (owned (now table) w c ≡ true) × (cursor (now table) c < length (lits (jobOf (now job)) c)) ⌝ }
     requires { ⌜ clear (jobOf (now job)) (now table) c (cursor (now table) c) ≡ true ⌝ }
-    ensures { λ r. ⌜ Made (passTurn (jobOf (now (job .entry))) (now (table .entry)) w c) r (now (table .exit)) ⌝ }
+    ensures { λ r. ⌜ Made (keeping (jobOf (now (job .entry))) (passTurn (jobOf (now (job .entry))) (now (table .entry)) w c)) r (now (table .exit)) ⌝ }
 {
     let cursor = Cursor::over(index, c, words::cursor_at(table, c));
     let b = next_claim(job, cursor);
@@ -85,15 +88,15 @@ fn pass_clear(job: &[u8], index: &ClaimIndex, table: &mut [u32], w: usize, c: us
     if mark == w + 1 {
         return Kind::Passed;
     }
+    let claims = format::claim_count(job);
     if mark == 0 {
-        marks::open_claim(table, w, b);
+        marks::open_newest(table, claims, w, b);
         return Kind::Opened;
     }
     if owners::meets_worker(job, table, w, mark - 1) {
         take_over(job, index, table, w, c);
         return Kind::Took;
     }
-    let claims = format::claim_count(job);
     stores::set_awaited(table, claims, w, b + 1);
     Kind::Waits
 }
@@ -103,7 +106,7 @@ pub fn pass_turn(job: &[u8], index: &ClaimIndex, table: &mut [u32], w: usize, c:
     requires { ⌜ Ready (now job) (now index) (now table) ⌝ }
     requires { ⌜ (c < claims (now job)) × (w < workers (now job)) ⌝ }
     requires { ⌜ (owned (now table) w c ≡ true) × (cursor (now table) c < length (lits (jobOf (now job)) c)) ⌝ }
-    ensures { λ r. ⌜ Made (passTurn (jobOf (now (job .entry))) (now (table .entry)) w c) r (now (table .exit)) ⌝ }
+    ensures { λ r. ⌜ Made (keeping (jobOf (now (job .entry))) (passTurn (jobOf (now (job .entry))) (now (table .entry)) w c)) r (now (table .exit)) ⌝ }
 {
     let passed = words::cursor_at(table, c);
     if failing::rule_failed(job, index, table, c, passed) {

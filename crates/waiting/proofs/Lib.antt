@@ -16,3 +16,4 @@ pub mod Worth
 pub mod Rises
 pub mod Measure
 pub mod Rounds
+pub mod Alike

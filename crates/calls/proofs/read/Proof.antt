@@ -25,8 +25,11 @@ enum-told c = search needs
 index-claims-requires : tie.Need-index-claims-requires
 index-claims-requires c κs = well-formed _ (sym (c .enum-told .given .1) ∙ c .before .before .check-job .ensures .0)
 
+count-questions-requires : tie.Need-count-questions-requires
+count-questions-requires c κs = well-formed _ (sym (c .before .enum-told .given .1) ∙ c .before .before .before .check-job .ensures .0)
+
 read-accepted-requires : tie.Need-read-accepted-requires
-read-accepted-requires c κs = (well-formed _ (sym (c .before .before .enum-told .given .1) ∙ c .before .before .before .before .check-job .ensures .0), c .before .index-claims .ensures)
+read-accepted-requires c κs = (well-formed _ (sym (c .before .before .before .before .enum-told .given .1) ∙ c .before .before .before .before .before .before .check-job .ensures .0), c .before .before .before .index-claims .ensures, c .before .before .count-questions .ensures)
 
 returns : tie.Need-returns
 unfolding readCheck readAnswer
@@ -41,13 +44,13 @@ returns c =
 returns-2 : tie.Need-returns-2
 unfolding readCheck
 returns-2 c =
-    let c₁ = c .before .before .before .before .before in
+    let c₁ = c .before .before .before .before .before .before .before in
     let c₂ = c₁ .before .before .before in
     let s = c₂ .args .job .now in
     let t = c₂ .args .table .now in
     let k = c₂ .args .claim in
     let F : Check → ReadAnswer = λ x. readAnswer x t k in
-    goes-on F (checkJob s) (checkTable (jobOf s) t ⨾ checkClaimRead s k) (c .before .before .before .enum-told .given .1) (c₁ .check-job .ensures .0) (c .read-accepted .ensures)
+    goes-on F (checkJob s) (checkTable (jobOf s) t ⨾ checkClaimRead s k) (c .before .before .before .before .before .enum-told .given .1) (c₁ .check-job .ensures .0) (c .read-accepted .ensures)
 
 pub read-spec : {M : Type 1} → statement M
 read-spec =
@@ -57,6 +60,7 @@ read-spec =
     enum-known-number
     enum-told
     index-claims-requires
+    count-questions-requires
     read-accepted-requires
     returns
     returns-2)

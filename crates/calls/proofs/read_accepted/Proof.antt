@@ -46,7 +46,7 @@ mark-at-requires c κs =
     let c₂ = c₁ .before .before .before in
     let s = c₂ .args .job .now in
     let t = c₂ .args .table .now in
-    omega (arith, room s t (ranges (jobOf s) t (sym (c .before .before .enum-told .given .1) ∙ c₁ .check-table .ensures)))
+    omega (arith, room s t (ranges (jobOf s) t (sym (c .before .before .enum-told .given .1) ∙ c₁ .check-table .ensures) .0))
 
 reading-of-requires : tie.Need-reading-of-requires
 reading-of-requires c κs = search needs

@@ -27,15 +27,18 @@ returns c = worked-answer _ _ _ (ran-stop-then _ _ _ _ _ (c .before .enum-told2 
 index-claims-requires : tie.Need-index-claims-requires
 index-claims-requires c κs = well-formed _ (sym (c .enum-told .given .1) ∙ c .before .before .check-job .ensures .0)
 
+count-questions-requires : tie.Need-count-questions-requires
+count-questions-requires c κs = well-formed _ (sym (c .before .enum-told .given .1) ∙ c .before .before .before .check-job .ensures .0)
+
 run-accepted-requires : tie.Need-run-accepted-requires
-run-accepted-requires c κs = (well-formed _ (sym (c .before .before .before .enum-told .given .1) ∙ c .before .before .before .before .before .check-job .ensures .0), c .before .before .index-claims .ensures)
+run-accepted-requires c κs = (well-formed _ (sym (c .before .before .before .before .before .enum-told .given .1) ∙ c .before .before .before .before .before .before .before .check-job .ensures .0), c .before .before .before .before .index-claims .ensures, c .before .before .before .count-questions .ensures)
 
 same-length : tie.Need-same-length
 same-length c = search needs
 
 returns-2 : tie.Need-returns-2
 unfolding runCheck
-returns-2 c = worked-answer _ _ _ (ran-then _ _ _ _ _ (c .before .before .before .before .before .before .enum-told .given .1) (c .before .before .before .before .before .before .before .before .check-job .ensures .0) (c .before .before .run-accepted .ensures))
+returns-2 c = worked-answer _ _ _ (ran-then _ _ _ _ _ (c .before .before .before .before .before .before .before .before .enum-told .given .1) (c .before .before .before .before .before .before .before .before .before .before .check-job .ensures .0) (c .before .before .run-accepted .ensures))
 
 pub run-spec : {M : Type 1} → statement M
 run-spec =
@@ -47,6 +50,7 @@ run-spec =
     no-turns-requires
     returns
     index-claims-requires
+    count-questions-requires
     run-accepted-requires
     same-length
     returns-2)

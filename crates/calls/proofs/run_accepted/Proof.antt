@@ -31,7 +31,8 @@ run-in-range-requires c κs =
     let s = c₁ .args .job .now in
     let t = c₁ .args .table .now in
     let p = c₁ .pre in
-    record { job = p .0; indexed = p .1; table = ranges (jobOf s) t (sym (c .before .enum-told .given .1) ∙ c .before .before .before .check-table .ensures) }
+    let r = ranges (jobOf s) t (sym (c .before .enum-told .given .1) ∙ c .before .before .before .check-table .ensures) in
+    (record { job = p .0; indexed = p .1; table = r .0; newests = r .1 }, p .2)
 
 same-length-2 : tie.Need-same-length-2
 same-length-2 c = search needs

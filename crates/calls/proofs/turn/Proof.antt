@@ -27,8 +27,11 @@ enum-told c = search needs
 index-claims-requires : tie.Need-index-claims-requires
 index-claims-requires c κs = well-formed _ (sym (c .enum-told .given .1) ∙ c .before .before .check-job .ensures .0)
 
+count-questions-requires : tie.Need-count-questions-requires
+count-questions-requires c κs = well-formed _ (sym (c .before .enum-told .given .1) ∙ c .before .before .before .check-job .ensures .0)
+
 turn-accepted-requires : tie.Need-turn-accepted-requires
-turn-accepted-requires c κs = (well-formed _ (sym (c .before .before .before .enum-told .given .1) ∙ c .before .before .before .before .before .check-job .ensures .0), c .before .before .index-claims .ensures)
+turn-accepted-requires c κs = (well-formed _ (sym (c .before .before .before .before .before .enum-told .given .1) ∙ c .before .before .before .before .before .before .before .check-job .ensures .0), c .before .before .before .before .index-claims .ensures, c .before .before .before .count-questions .ensures)
 
 returns : tie.Need-returns
 unfolding turnCheck turnAnswer turnTable
@@ -49,7 +52,7 @@ same-length c = search needs
 returns-2 : tie.Need-returns-2
 unfolding turnCheck
 returns-2 c =
-    let c₁ = c .before .before .before .before .before .before in
+    let c₁ = c .before .before .before .before .before .before .before .before in
     let c₂ = c₁ .before .before in
     let c₃ = c₂ .before .before .before in
     let s = c₃ .args .job .now in
@@ -70,6 +73,7 @@ turn-spec =
     enum-known-number
     enum-told
     index-claims-requires
+    count-questions-requires
     turn-accepted-requires
     returns
     same-length

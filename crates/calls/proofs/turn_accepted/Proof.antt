@@ -48,14 +48,18 @@ returns c =
     let q = stop _ _ _ _ (notBelow-yes w (workers s) (omega arith)) in
     (goes-on F (checkTable (jobOf s) t) (checkTurnWorker s w) a b (ap F q), goes-on G (checkTable (jobOf s) t) (checkTurnWorker s w) a b (ap G q))
 
+index-questions-requires : tie.Need-index-questions-requires
+index-questions-requires c κs = let p = c .before .before .before .before .before .before .before .before .pre in (p .0, p .2)
+
 take-turn-requires : tie.Need-take-turn-requires
 take-turn-requires c κs =
-    let c₁ = c .before .before .before .before .before in
+    let c₁ = c .before .before .before .before .before .before .before in
     let c₂ = c₁ .before .before .before .before in
     let s = c₂ .args .job .now in
     let t = c₂ .args .table .now in
     let p = c₂ .pre in
-    (record { job = p .0; indexed = p .1; table = ranges (jobOf s) t (sym (c .before .before .before .enum-told .given .1) ∙ c₁ .check-table .ensures) }, omega arith)
+    let r = ranges (jobOf s) t (sym (c .before .before .before .before .before .enum-told .given .1) ∙ c₁ .check-table .ensures) in
+    (record { job = p .0; indexed = p .1; table = r .0; newests = r .1 }, (c .before .before .index-questions .ensures, omega (arith, c .before .before .before .if1 .left, c .before .before .before .before .worker-count .ensures .value)))
 
 same-length-2 : tie.Need-same-length-2
 same-length-2 c = search needs
@@ -79,7 +83,7 @@ same-length-3 c = search needs
 returns-3 : tie.Need-returns-3
 unfolding checkTurnWorker turnAnswer turnTable
 returns-3 c =
-    let c₁ = c .before .before .before .before .before .before in
+    let c₁ = c .before .before .before .before .before .before .before .before in
     let c₂ = c₁ .before .before in
     let c₃ = c₂ .before .before .before .before in
     let s = c₃ .args .job .now in
@@ -89,7 +93,7 @@ returns-3 c =
     let G : Check → List ℕ = λ x. turnTable x s t w in
     let a = c₁ .enum-told .given .1 in
     let b = c₂ .check-table .ensures in
-    let q : Accepted ≡ checkTurnWorker s w = pass _ _ _ _ (notBelow-no w (workers s) (omega arith)) refl in
+    let q : Accepted ≡ checkTurnWorker s w = pass _ _ _ _ (notBelow-no w (workers s) (omega (arith, c .before .before .before .before .before .before .if1 .left, c .before .before .before .before .before .before .before .worker-count .ensures .value))) refl in
     let m = c .before .before .take-turn .ensures in
     (goes-on F (checkTable (jobOf s) t) (checkTurnWorker s w) a b (ap Made (m .kindIs) ∙ ap F q), goes-on G (checkTable (jobOf s) t) (checkTurnWorker s w) a b (m .tableIs ∙ ap G q))
 
@@ -103,6 +107,7 @@ turn-accepted-spec =
     worker-count-requires
     same-length
     returns
+    index-questions-requires
     take-turn-requires
     same-length-2
     returns-2

@@ -42,7 +42,7 @@ returns c =
     let a = c₃ .args in
     let p = c₃ .pre in
     made-from (c .before .before .set-awaited .ensures)
-    (wakes (a .job .now) (a .table .now) (a .w) (p .1 .1) (λ e. omega arith) (c₁ .before .before .mark-at .ensures .value) (complete-yes (c₁ .before .is-complete .ensures) (c₁ .if1 .taken)) (c₂ .claim-count .ensures .value))
+    (wakes (a .job .now) (a .table .now) (a .w) (p .0 .3) (p .1 .1) (λ e. omega arith) (c₁ .before .before .mark-at .ensures .value) (complete-yes (c₁ .before .is-complete .ensures) (c₁ .if1 .taken)) (c₂ .claim-count .ensures .value))
 
 same-length-2 : tie.Need-same-length-2
 same-length-2 c = search needs
@@ -52,7 +52,7 @@ returns-2 c =
     let c₁ = c .before .before .before .before .before .before .before in
     let a = c₁ .args in
     let p = c₁ .pre in
-    waits-on (a .job .now) (a .table .now) (a .w) (p .1 .1) (λ e. omega arith) (c .before .before .mark-at .ensures .value) (complete-no (c .before .is-complete .ensures) (c .if1 .left))
+    waits-on (a .job .now) (a .table .now) (a .w) (p .0 .3) (p .1 .1) (λ e. omega arith) (c .before .before .mark-at .ensures .value) (complete-no (c .before .is-complete .ensures) (c .if1 .left))
 
 pub wait-turn-spec : {M : Type 1} → statement M
 wait-turn-spec =

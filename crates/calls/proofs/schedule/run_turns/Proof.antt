@@ -7,16 +7,16 @@ use Rattle.calls.proofs.schedule.run_turns.Statement.{statement}
 use Rattle.calls.proofs.schedule.run_turns.Tie as tie
 
 abbrev Inv-loop : tie.InvT-loop
-Inv-loop job index table₀ schedule counts₀ i₀ i-end table counts i = Partly job table₀ schedule i table counts
+Inv-loop job index asked table₀ schedule counts₀ i₀ i-end table counts i = Partly job table₀ schedule i table counts
 
 abbrev μ-loop : tie.MeasureT-loop
-μ-loop job index table₀ schedule counts₀ i₀ i-end table counts i = length schedule - i
+μ-loop job index asked table₀ schedule counts₀ i₀ i-end table counts i = length schedule - i
 
 no-turns-requires : tie.Need-no-turns-requires Inv-loop μ-loop
 no-turns-requires c κs = tt
 
 loop-holds : tie.Need-loop-holds Inv-loop μ-loop
-loop-holds c = partly-none _ _ _ (c .before .before .before .before .pre .0 .table) (c .no-turns .ensures)
+loop-holds c = let r = c .before .before .before .before .pre .0 in partly-none _ _ _ (r .table) (r .newests) (c .no-turns .ensures)
 
 shared-slice-read-byte : tie.Need-shared-slice-read-byte Inv-loop μ-loop
 shared-slice-read-byte c = omega arith
@@ -26,9 +26,12 @@ byte-requires c κs = tt
 
 take-turn-requires : tie.Need-take-turn-requires Inv-loop μ-loop
 take-turn-requires c κs =
-    let p = c .before .before .before .before .before .before .before .before .before .pre in
-    let l = c .before .before .before .before .loop in
-    (record { job = p .0 .job; indexed = p .0 .indexed; table = l .inv .range }, omega (arith, c .byte .ensures .value, p .1 (l .i) (omega arith)))
+    let c₁ = c .before .before .before .before in
+    let p = c₁ .before .before .before .before .before .pre in
+    let l = c₁ .loop in (
+      record { job = p .0 .job; indexed = p .0 .indexed; table = l .inv .range; newests = l .inv .newests },
+      (p .1 .0, omega (arith, c .byte .ensures .value, p .1 .1 (l .i) (omega arith))),
+    )
 
 counted-requires : tie.Need-counted-requires Inv-loop μ-loop
 counted-requires c κs = λ k. omega (arith, c .before .before .before .before .before .before .before .loop .inv .small k)
@@ -47,7 +50,7 @@ loop-again c =
     let p = c₃ .pre in
     let l = c₂ .loop in
     let named = c₁ .byte .ensures .value in
-    let h = p .1 (l .i) (omega arith) in
+    let h = p .1 .1 (l .i) (omega arith) in
     partly-more _ _ _ (p .0 .job) (l .inv) (omega arith) named (omega arith) (c .before .before .before .take-turn .ensures) (c .counted .ensures)
 
 same-length : tie.Need-same-length Inv-loop μ-loop

@@ -1,5 +1,5 @@
 -- `listing::finish::all_answered` meets its contract. The loop's invariant: the workers still to come say whether all is answered. The measure is what is left of them. Assumes nothing.
-use Prim.Native.Nat.{_-_}
+use Prim.Native.Nat.{_-_, _<_}
 use mathlib.Core.Path.{_∙_}
 use native.Mathlib.Omega.{arith}
 use Rattle.job.specs.Format.{workers as workersOf, jobOf}
@@ -9,10 +9,10 @@ use Rattle.listing.proofs.finish.all_answered.Statement.{statement}
 use Rattle.listing.proofs.finish.all_answered.Tie as tie
 
 abbrev Inv-loop : tie.InvT-loop
-Inv-loop job totals table claims workers w₀ w = Rest job table w
+Inv-loop job asked table claims workers w₀ w = Rest job table w
 
 abbrev μ-loop : tie.MeasureT-loop
-μ-loop job totals table claims workers w₀ w = workersOf job - w
+μ-loop job asked table claims workers w₀ w = workersOf job - w
 
 claim-count-requires : tie.Need-claim-count-requires Inv-loop μ-loop
 claim-count-requires c κs = omega arith
@@ -27,26 +27,25 @@ answered-at-requires : tie.Need-answered-at-requires Inv-loop μ-loop
 unfolding jobOf
 answered-at-requires c κs = let p = c .before .before .before .before .before .before .pre in omega (arith, p .1 .0 .room)
 
-mul-word : tie.Need-mul-word Inv-loop μ-loop
-mul-word c = omega arith
-
-element-copy-out-word : tie.Need-element-copy-out-word Inv-loop μ-loop
-element-copy-out-word c = omega arith
-
-word-requires : tie.Need-word-requires Inv-loop μ-loop
-word-requires c κs = tt
+asked-count-requires : tie.Need-asked-count-requires Inv-loop μ-loop
+unfolding jobOf
+asked-count-requires c κs =
+    let l = c .before .before .loop in
+    let p = c .before .before .before .before .before .before .before .pre .1 .1 in
+    let h : l .w < jobOf (c .before .before .before .before .before .before .before .args .job .now) .workers = omega (arith, l .inv .within, c .before .loop-test .taken, c .before .before .before .worker-count .ensures .value) in
+    (omega (arith, h, p .few), p .rise (l .w) h)
 
 returns : tie.Need-returns Inv-loop μ-loop
 unfolding jobOf
 returns c =
-    let c₁ = c .before .before .before .before .before in
+    let c₁ = c .before .before .before .before in
     let c₂ = c₁ .before .before in
     let c₃ = c₂ .before .before .before in
     let l = c₁ .loop in
     let s = c₃ .args .job .now in
     let t = c₃ .args .table .now in
-    let a = answered-read s t (l .w) (c₂ .claim-count .ensures .value) (c .before .before .before .answered-at .ensures .value) in
-    let n = c .before .word .ensures .value ∙ c₃ .pre .1 .1 .counts (l .w) (omega arith) in
+    let a = answered-read s t (l .w) (c₂ .claim-count .ensures .value) (c .before .before .answered-at .ensures .value) in
+    let n = c .before .asked-count .ensures ∙ c₃ .pre .1 .1 .counts (l .w) (omega arith) in
     rest-fails s t (l .inv) (omega arith) a n (omega arith)
 
 add-w : tie.Need-add-w Inv-loop μ-loop
@@ -58,14 +57,14 @@ loop-less c = omega arith
 loop-again : tie.Need-loop-again Inv-loop μ-loop
 unfolding jobOf
 loop-again c =
-    let c₁ = c .before .before .before .before .before in
+    let c₁ = c .before .before .before .before in
     let c₂ = c₁ .before .before in
     let c₃ = c₂ .before .before .before in
     let l = c₁ .loop in
     let s = c₃ .args .job .now in
     let t = c₃ .args .table .now in
-    let a = answered-read s t (l .w) (c₂ .claim-count .ensures .value) (c .before .before .before .answered-at .ensures .value) in
-    let n = c .before .word .ensures .value ∙ c₃ .pre .1 .1 .counts (l .w) (omega arith) in
+    let a = answered-read s t (l .w) (c₂ .claim-count .ensures .value) (c .before .before .answered-at .ensures .value) in
+    let n = c .before .asked-count .ensures ∙ c₃ .pre .1 .1 .counts (l .w) (omega arith) in
     rest-next s t (l .inv) (omega arith) a n (omega arith)
 
 returns-2 : tie.Need-returns-2 Inv-loop μ-loop
@@ -81,9 +80,7 @@ all-answered-spec =
     worker-count-requires
     loop-holds
     answered-at-requires
-    mul-word
-    element-copy-out-word
-    word-requires
+    asked-count-requires
     returns
     add-w
     loop-less

@@ -21,7 +21,7 @@ unfolding checkTable
 returns c = halt _ _ (c .enum-told2 .given .1) (c .before .before .check-room .ensures)
 
 check-words-requires : tie.Need-check-words-requires
-check-words-requires c κs = let p = c .before .before .before .before .before .pre in (p .0, (p .1, enough-room _ _ (sym (c .enum-told .given .1) ∙ c .before .before .check-room .ensures)))
+check-words-requires c κs = let p = c .before .before .before .before .before .pre in (p .0, (p .1 .0, (p .1 .1, enough-room _ _ (sym (c .enum-told .given .1) ∙ c .before .before .check-room .ensures))))
 
 returns-2 : tie.Need-returns-2
 unfolding checkTable

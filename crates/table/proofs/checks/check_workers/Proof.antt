@@ -1,34 +1,49 @@
 -- `table::checks::check_workers` meets its contract. The loop's invariant: w is at most the workers, and each worker before w is
 -- accepted. The measure is what is left of the workers. Assumes nothing.
 use Prim.Native.Nat.{ℕ, _-_, _≤_, _<_}
-use mathlib.Core.Path.{_≡_, sym, _∙_}
+use mathlib.Core.Path.{_≡_, sym, _∙_, subst}
+use mathlib.Core.List.{List}
 use native.Mathlib.Omega.{arith}
 use borrow.Author.Count.{below-none, below-more}
 use borrow.Author.Needs.{needs}
 use Rattle.job.specs.declared.Check.the-variants.{Accepted}
-use Rattle.job.specs.Format.{workers as workersOf, jobOf}
+use Rattle.job.specs.Format.{claims as claimsOf, workers as workersOf, jobOf}
 use Rattle.table.proofs.Each.{each-none, each-at}
+use Rattle.table.proofs.Sizes.{sizes}
+use Rattle.table.specs.Newest.{Searched}
 use Rattle.table.specs.Ranges.{checkWorker}
 use Rattle.table.proofs.checks.check_workers.Statement.{statement}
 use Rattle.table.proofs.checks.check_workers.Tie as tie
 
 abbrev Inv-loop : tie.InvT-loop
-Inv-loop job table workers counts w₀ w = (w ≤ workersOf job) × ((k : ℕ) → k < w → Accepted ≡ checkWorker (jobOf job) table k)
+Inv-loop job counts table workers newests w₀ w = (w ≤ workersOf job) × ((k : ℕ) → k < w → Accepted ≡ checkWorker (jobOf job) table k)
 
 abbrev μ-loop : tie.MeasureT-loop
-μ-loop job table workers counts w₀ w = workersOf job - w
+μ-loop job counts table workers newests w₀ w = workersOf job - w
 
 worker-count-requires : tie.Need-worker-count-requires Inv-loop μ-loop
 worker-count-requires c κs = omega arith
 
-count-questions-requires : tie.Need-count-questions-requires Inv-loop μ-loop
-count-questions-requires c κs = search needs
+claim-count-requires : tie.Need-claim-count-requires Inv-loop μ-loop
+claim-count-requires c κs = omega arith
+
+newest-claims-requires : tie.Need-newest-claims-requires Inv-loop μ-loop
+newest-claims-requires c κs = let z = sizes (c .before .before .before .before .args .job .now) in omega arith
 
 loop-holds : tie.Need-loop-holds Inv-loop μ-loop
 loop-holds c = (omega arith, below-none _)
 
+-- what the search found, in the terms of the job
+searched : (s : List ℕ) {t ns : List ℕ} {n : ℕ} → n ≡ claimsOf s → Searched n t ns → Searched (jobOf s .claims) t ns
+unfolding jobOf
+searched s {t} {ns} e r = subst (λ (a : ℕ). Searched a t ns) e r
+
 check-worker-requires : tie.Need-check-worker-requires Inv-loop μ-loop
-check-worker-requires c κs = let p = c .before .before .before .before .before .before .before .pre in (p .0, (c .before .before .before .count-questions .ensures, (p .1, omega arith)))
+check-worker-requires c κs =
+    let c₁ = c .before .before .before in
+    let s = c₁ .before .before .before .before .before in
+    let p = s .pre in
+    (p .0, (p .1 .0, (searched (s .args .job .now) (c₁ .before .claim-count .ensures .value) (c₁ .newest-claims .ensures), (p .1 .1, omega arith))))
 
 enum-told : tie.Need-enum-told Inv-loop μ-loop
 enum-told c = search needs
@@ -64,7 +79,8 @@ check-workers-spec =
     Inv-loop
     μ-loop
     worker-count-requires
-    count-questions-requires
+    claim-count-requires
+    newest-claims-requires
     loop-holds
     check-worker-requires
     enum-told

@@ -16,6 +16,10 @@ use Rattle.turn.proofs.Tests.{complete-yes, complete-no}
 use Rattle.turn.proofs.Making.{made-from}
 use Rattle.turn.proofs.PutQuestion.{claim-low, fresh-left, puts-answered, puts-opened, puts-waits}
 use Rattle.turn.proofs.Following.{room}
+use Rattle.turn.proofs.Places.{place-low}
+use Rattle.turn.proofs.ThirdWords.{kept-low}
+use Rattle.table.proofs.Sizes.{sizes}
+use Rattle.job.proofs.Accepted.{header-room}
 use Rattle.turn.proofs.asking.ask.Statement.{statement}
 use Rattle.turn.proofs.asking.ask.Tie as tie
 
@@ -29,7 +33,11 @@ literal-count-requires : tie.Need-literal-count-requires
 literal-count-requires c κs = search needs
 
 question-at-requires : tie.Need-question-at-requires
-question-at-requires c κs = search needs
+question-at-requires c κs =
+    let c₁ = c .before .before .before .before .before in
+    let a = c₁ .args in
+    let p = c₁ .pre in
+    omega (arith, header-room _ (p .0 .0), c .literal-count .ensures .value, c .before .rule-count .ensures .value, place-low (jobOf (a .job .now)) (a .w) (a .n) (p .1 .1), p .1 .2, sizes (a .job .now) .questions-are, p .0 .0)
 
 -- the question that was read, in the job's terms
 asked : (c : tie.After-question-at) → Asked (c .before .before .before .before .before .before .args .job .now) (c .before .before .before .before .before .before .args .k) (c .question-at .result)
@@ -56,7 +64,7 @@ sure c =
     let p = c .before .before .before .before .before .before .pre in
     record {
       words = room s t (p .0 .1);
-      low = claim-low s t (a .w) (a .n) (a .k) (c .question-at .result) (mark t (c .question-at .result .claim)) (p .0 .0) (p .1 .0) (p .1 .1) (p .1 .2) (asked c) refl;
+      low = claim-low s t (a .w) (a .n) (a .k) (c .question-at .result) (mark t (c .question-at .result .claim)) (p .0 .0) (p .0 .3) (p .0 .2) (p .1 .0) (p .1 .1) (p .1 .2) (asked c) refl;
       few = omega (arith, p .1 .0, p .0 .1 .answers (a .w) (p .0 .2), few-asked s (a .w), questions-count s, p .0 .0 .sized .questionsMost);
       most = p .0 .0 .sized .claimsMost;
       crew = p .0 .0 .sized .workersMost;
@@ -80,7 +88,7 @@ set-answer-requires c κs =
     let c₂ = c₁ .before .before .before .before .before in
     let c₃ = c₂ .before .before .before in
     let p = c₃ .pre in
-    omega (arith, sure (c₁ .before .before), p .1 .1, c₂ .claim-count .ensures .value, c .before .before .worker-count .ensures .value, c .value-of .ensures, c₁ .mark-at .ensures .small)
+    omega (arith, sure (c₁ .before .before), place-low (jobOf (c₃ .args .job .now)) (c₃ .args .w) (c₃ .args .n) (p .1 .1), p .1 .2, sizes (c₃ .args .job .now) .questions-are, c₂ .claim-count .ensures .value, c .before .before .worker-count .ensures .value, c .value-of .ensures, c₁ .mark-at .ensures .small)
 
 add-set-answered : tie.Need-add-set-answered
 add-set-answered c =
@@ -122,16 +130,20 @@ returns c =
     let v = c₁ .before .value-of .ensures in
     let one = c₁ .set-answer .ensures ∙ ap (set t (answerAt (c₄ .claim-count .result) (c₂ .worker-count .result) (a .k))) v in
     made-from (c .before .before .set-answered .ensures ∙ ap (λ (x : List ℕ). set x (answeredAt (c₄ .claim-count .result) (a .w)) (a .n + 1)) one)
-    (puts-answered s t (a .w) (a .n) (a .k) q (c₃ .mark-at .result) (p .0 .0) (p .1 .0) (p .1 .1) (p .1 .2) (asked (c₃ .before .before)) (c₃ .mark-at .ensures .value) (complete-yes (c₂ .before .before .is-complete .ensures) (c₂ .before .if1 .taken)) (c₄ .claim-count .ensures .value) (c₂ .worker-count .ensures .value))
+    (puts-answered s t (a .w) (a .n) (a .k) q (c₃ .mark-at .result) (p .0 .0) (p .0 .3) (p .0 .2) (p .1 .0) (p .1 .1) (p .1 .2) (asked (c₃ .before .before)) (c₃ .mark-at .ensures .value) (complete-yes (c₂ .before .before .is-complete .ensures) (c₂ .before .if1 .taken)) (c₄ .claim-count .ensures .value) (c₂ .worker-count .ensures .value))
 
-open-claim-requires : tie.Need-open-claim-requires
-open-claim-requires c κs =
+open-newest-requires : tie.Need-open-newest-requires
+open-newest-requires c κs =
     let c₁ = c .before .before .before .before in
-    let c₂ = c₁ .before .before .before .before .before .before .before .before in
-    let a = c₂ .args in
-    let p = c₂ .pre in
-    let r = sure (c₁ .before .before) in
-    (omega (arith, r), omega (arith, r), omega (arith, r, p .0 .2), fresh-left (a .job .now) (a .table .now) (p .0 .0) (p .0 .1) (c₁ .before .before .question-at .result .claim) (r .low) (sym (c₁ .mark-at .ensures .value) ∙ c .before .if2 .taken))
+    let c₂ = c₁ .before .before .before .before .before in
+    let c₃ = c₂ .before .before .before in
+    let a = c₃ .args in
+    let p = c₃ .pre in
+    let n = c₂ .claim-count .ensures .value in
+    let r = sure (c₁ .before .before) in (
+      (omega (arith, r, n), omega (arith, r, n), omega (arith, r, n, p .0 .2), omega (arith, r, p .0 .2)),
+      (fresh-left (a .job .now) (a .table .now) (p .0 .0) (p .0 .1) (c₁ .before .before .question-at .result .claim) (r .low) (sym (c₁ .mark-at .ensures .value) ∙ c .before .if2 .taken), kept-low (a .job .now) (a .table .now) (p .0 .3) (a .w) (p .0 .2) n),
+    )
 
 same-length-2 : tie.Need-same-length-2
 same-length-2 c = search needs
@@ -140,11 +152,11 @@ returns-2 : tie.Need-returns-2
 returns-2 c =
     let c₁ = c .before .before .before .before in
     let c₂ = c₁ .before .before .before in
-    let c₃ = c₂ .before .before .before .before .before .before .before .before in
-    let a = c₃ .args in
-    let p = c₃ .pre in
-    made-from (c .before .before .open-claim .ensures)
-    (puts-opened (a .job .now) (a .table .now) (a .w) (a .n) (a .k) (c₂ .before .before .question-at .result) (c₂ .mark-at .result) (p .0 .0) (p .1 .0) (p .1 .1) (p .1 .2) (asked (c₂ .before .before)) (c₂ .mark-at .ensures .value) (c₁ .if2 .taken))
+    let c₃ = c₂ .before .before .before .before .before in
+    let c₄ = c₃ .before .before .before in
+    let a = c₄ .args in
+    let p = c₄ .pre in
+    puts-opened (a .job .now) (a .table .now) (a .w) (a .n) (a .k) (c₂ .before .before .question-at .result) (c₂ .mark-at .result) (p .0 .0) (p .0 .3) (p .0 .2) (p .1 .0) (p .1 .1) (p .1 .2) (asked (c₂ .before .before)) (c₂ .mark-at .ensures .value) (c₁ .if2 .taken) (p .0 .1) (c₃ .claim-count .ensures .value) (c .before .before .open-newest .ensures)
 
 add-set-awaited : tie.Need-add-set-awaited
 add-set-awaited c =
@@ -170,7 +182,7 @@ returns-3 c =
     let a = c₄ .args in
     let p = c₄ .pre in
     made-from (c .before .before .set-awaited .ensures)
-    (puts-waits (a .job .now) (a .table .now) (a .w) (a .n) (a .k) (c₂ .before .before .question-at .result) (c₂ .mark-at .result) (p .0 .0) (p .1 .0) (p .1 .1) (p .1 .2) (asked (c₂ .before .before)) (c₂ .mark-at .ensures .value) (c₁ .if2 .left) (complete-no (c₁ .before .before .is-complete .ensures) (c₁ .before .if1 .left)) (c₃ .claim-count .ensures .value))
+    (puts-waits (a .job .now) (a .table .now) (a .w) (a .n) (a .k) (c₂ .before .before .question-at .result) (c₂ .mark-at .result) (p .0 .0) (p .0 .3) (p .0 .2) (p .1 .0) (p .1 .1) (p .1 .2) (asked (c₂ .before .before)) (c₂ .mark-at .ensures .value) (c₁ .if2 .left) (complete-no (c₁ .before .before .is-complete .ensures) (c₁ .before .if1 .left)) (c₃ .claim-count .ensures .value))
 
 pub ask-spec : {M : Type 1} → statement M
 ask-spec =
@@ -189,7 +201,7 @@ ask-spec =
     set-answered-requires
     same-length
     returns
-    open-claim-requires
+    open-newest-requires
     same-length-2
     returns-2
     add-set-awaited

@@ -1,57 +1,80 @@
 -- `turn::asking::ask_turn` meets its contract. Assumes nothing.
-use mathlib.Core.Path.{sym, _∙_}
+use Prim.Native.Nat.{ℕ, _<_}
+use mathlib.Core.Path.{_≡_, _∙_}
+use mathlib.Core.List.{List}
 use native.Mathlib.Omega.{arith}
 use borrow.Author.Needs.{needs}
-use Rattle.job.specs.Format.{jobOf}
+use lib.ListN.{length}
+use Rattle.job.specs.Job.{Job}
+use Rattle.job.specs.Format.{workers, jobOf}
+use Rattle.table.specs.Questions.{askedBy, countIn, Listed}
+use Rattle.table.proofs.Sizes.{sizes}
+use Rattle.table.proofs.QuestionPlaces.{listed-room}
 use Rattle.turn.proofs.PutQuestion.{puts-none}
 use Rattle.turn.proofs.Following.{room, answered-read}
 use Rattle.turn.proofs.asking.ask_turn.Statement.{statement}
 use Rattle.turn.proofs.asking.ask_turn.Tie as tie
 
+-- the worker is one of the job's
+its : (s : List ℕ) (w : ℕ) → w < workers s → w < jobOf s .workers
+its s w h = omega (arith, sizes s .workers-are)
+
+-- a question is left, by the index
+more : {j : Job} {index : List ℕ} → Listed j index → (w : ℕ) → w < j .workers → {r n : ℕ} → r ≡ countIn index w → n < r → n < length (askedBy j w)
+more k w l e h = omega (arith, k .counts w l)
+
 claim-count-requires : tie.Need-claim-count-requires
 claim-count-requires c κs = search needs
 
 answered-at-requires : tie.Need-answered-at-requires
-answered-at-requires c κs = omega (arith, room (c .before .before .before .before .args .job .now) (c .before .before .before .before .args .table .now) (c .before .before .before .before .pre .1), c .before .before .before .before .pre .2)
-
-next-question-requires : tie.Need-next-question-requires
-next-question-requires c κs = search needs
-
-enum-known-next : tie.Need-enum-known-next
-enum-known-next c = search needs
-
-ask-requires : tie.Need-ask-requires
-ask-requires c κs =
+answered-at-requires c κs =
     let c₁ = c .before .before .before .before in
-    let c₂ = c₁ .before in
-    let c₃ = c₂ .before .before in
-    let c₄ = c₃ .before .before .before in
-    let s = c₄ .args .job .now in
-    let t = c₄ .args .table .now in
-    let e = c .before .before .next .given .1 in (
-      c₄ .pre,
-      (answered-read s t (c₄ .args .w) (c₃ .claim-count .ensures .value) (c₂ .answered-at .ensures .value), c₁ .next-question .ensures .1 _ e, sym e ∙ c₁ .next-question .ensures .0),
-    )
+    omega (arith, room (c₁ .args .job .now) (c₁ .args .table .now) (c₁ .pre .1 .1), c₁ .pre .1 .2)
 
-enum-told : tie.Need-enum-told
-enum-told c = search needs
+asked-count-requires : tie.Need-asked-count-requires
+asked-count-requires c κs =
+    let c₁ = c .before .before .before .before .before in
+    let p = c₁ .pre in
+    let l = its (c₁ .args .job .now) (c₁ .args .w) (p .1 .2) in
+    (omega (arith, l, p .0 .few), p .0 .rise (c₁ .args .w) l)
 
 same-length : tie.Need-same-length
 same-length c = search needs
 
 returns : tie.Need-returns
-returns c = search needs
+returns c =
+    let c₁ = c .before .before .before .before in
+    let c₂ = c₁ .before .before .before in
+    let a = c₂ .args in
+    let p = c₂ .pre in
+    let s = a .job .now in
+    puts-none (jobOf s) (a .table .now) (a .w) _ (p .1 .3) (answered-read s (a .table .now) (a .w) (c₁ .claim-count .ensures .value) (c .before .before .answered-at .ensures .value))
+    (omega (arith, c .if1 .taken, c .before .asked-count .ensures, p .0 .counts (a .w) (its s (a .w) (p .1 .2))))
+
+asked-at-requires : tie.Need-asked-at-requires
+asked-at-requires c κs =
+    let c₁ = c .before .before .before .before .before .before .before .before in
+    let a = c₁ .args in
+    let p = c₁ .pre in
+    let l = its (a .job .now) (a .w) (p .1 .2) in
+    (omega (arith, l, p .0 .few), listed-room (p .0) (a .w) _ l (more (p .0) (a .w) l (c .before .before .asked-count .ensures) (c .before .if1 .left)))
+
+ask-requires : tie.Need-ask-requires
+ask-requires c κs =
+    let c₁ = c .before .before .before .before .before .before in
+    let c₂ = c₁ .before .before .before in
+    let a = c₂ .args in
+    let p = c₂ .pre in
+    let s = a .job .now in
+    let l = its s (a .w) (p .1 .2) in
+    let m = more (p .0) (a .w) l (c .before .before .before .asked-count .ensures) (c .before .before .if1 .left) in
+    (p .1, (answered-read s (a .table .now) (a .w) (c₁ .claim-count .ensures .value) (c .before .before .before .before .answered-at .ensures .value), m, c .asked-at .ensures ∙ p .0 .places (a .w) _ l m))
 
 same-length-2 : tie.Need-same-length-2
 same-length-2 c = search needs
 
 returns-2 : tie.Need-returns-2
-returns-2 c =
-    let c₁ = c .before .before .before .before .before in
-    let c₂ = c₁ .before .before .before in
-    let s = c₂ .args .job .now in
-    let t = c₂ .args .table .now in
-    puts-none (jobOf s) t (c₂ .args .w) _ (answered-read s t (c₂ .args .w) (c₁ .claim-count .ensures .value) (c .before .before .before .answered-at .ensures .value)) (sym (c .enum-told .given .1) ∙ c .before .before .next-question .ensures .0)
+returns-2 c = search needs
 
 pub ask-turn-spec : {M : Type 1} → statement M
 ask-turn-spec =
@@ -59,11 +82,10 @@ ask-turn-spec =
     (tie.spec
     claim-count-requires
     answered-at-requires
-    next-question-requires
-    enum-known-next
-    ask-requires
-    enum-told
+    asked-count-requires
     same-length
     returns
+    asked-at-requires
+    ask-requires
     same-length-2
     returns-2)

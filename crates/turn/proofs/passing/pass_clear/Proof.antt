@@ -8,8 +8,9 @@ use lib.ListN.{set}
 use Rattle.job.proofs.Accepted.{header-room}
 use Rattle.table.specs.Layout.{cursorWord}
 use Rattle.turn.proofs.Tests.{complete-yes, complete-no}
-use Rattle.turn.proofs.Cursors.{next-there, next-left, next-is, moved-low, moved-by-one, Passing, moved-length, moved-range, moved-opened, moved-owner, moved-ready, pass-complete, pass-own, pass-fresh, pass-took, pass-waits}
+use Rattle.turn.proofs.Cursors.{next-there, next-left, next-is, moved-low, moved-by-one, Passing, moved-length, moved-range, moved-opened, moved-owner, moved-kept, moved-ready, pass-complete, pass-own, pass-fresh, pass-took, pass-waits}
 use Rattle.turn.proofs.Following.{room}
+use Rattle.turn.proofs.ThirdWords.{kept-low}
 use Rattle.turn.proofs.passing.pass_clear.Statement.{statement}
 use Rattle.turn.proofs.passing.pass_clear.Tie as tie
 
@@ -84,7 +85,7 @@ same-length c = search needs
 returns : tie.Need-returns
 returns c =
     let c₁ = c .before .before .before .before in
-    pass-complete (facts (c₁)) (complete-yes (c .before .is-complete .ensures) (c .if1 .taken))
+    pass-complete (facts (c₁)) (c₁ .before .before .before .before .before .before .before .before .before .before .before .pre .0 .newests) (complete-yes (c .before .is-complete .ensures) (c .if1 .taken))
 
 add-if2 : tie.Need-add-if2
 add-if2 c = search needs
@@ -95,15 +96,26 @@ same-length-2 c = search needs
 returns-2 : tie.Need-returns-2
 returns-2 c =
     let c₁ = c .before .before .before .before .before in
-    pass-own (facts (c₁)) (complete-no (c .before .before .is-complete .ensures) (c .before .if1 .left)) (c .if2 .taken)
+    pass-own (facts (c₁)) (c₁ .before .before .before .before .before .before .before .before .before .before .before .pre .0 .newests) (complete-no (c .before .before .is-complete .ensures) (c .before .if1 .left)) (c .if2 .taken)
 
-open-claim-requires : tie.Need-open-claim-requires
-open-claim-requires c κs =
-    let c₁ = c .before .before .before .before .before .before .before in
-    let c₂ = c₁ .before .before .before .before .before .before .before .before .before .before .before in
-    let a = c₂ .pre .0 in
-    let g = facts (c₁) in
-    omega (arith, room _ _ (a .table), a .job .sized .claimsMost, a .job .sized .workersMost, g .low, g .worker, moved-length g, moved-opened g (a .job) (a .table) (c .before .if3 .taken))
+claim-count-requires : tie.Need-claim-count-requires
+claim-count-requires c κs =
+    let c₁ = c .before .before .before .before .before .before .before .before .before .before .before .before .before .before .before .before in
+    header-room _ (c₁ .pre .0 .job)
+
+open-newest-requires : tie.Need-open-newest-requires
+open-newest-requires c κs =
+    let c₁ = c .before .before in
+    let c₂ = c₁ .before .before .before .before .before .before in
+    let c₃ = c₂ .before .before .before .before .before .before .before .before .before .before .before in
+    let a = c₃ .pre .0 in
+    let g = facts (c₂) in
+    let n = c₁ .claim-count .ensures .value in
+    let r = room _ _ (a .table) in
+    let q = a .job .sized in (
+      (omega (arith, n, g .low), omega (arith, n, q .claimsMost), omega (arith, n, r, g .worker, moved-length g), omega (arith, q .workersMost, g .worker)),
+      (moved-opened g (a .job) (a .table) (c .before .if3 .taken), kept-low _ _ (moved-kept g (a .newests)) _ (g .worker) n),
+    )
 
 same-length-3 : tie.Need-same-length-3
 same-length-3 c = search needs
@@ -111,16 +123,17 @@ same-length-3 c = search needs
 returns-3 : tie.Need-returns-3
 returns-3 c =
     let c₁ = c .before .before .before .before in
-    let c₂ = c₁ .before .before .before in
+    let c₂ = c₁ .before .before .before .before in
     let c₃ = c₂ .before .before .before in
-    pass-fresh (facts (c₃)) (complete-no (c₂ .is-complete .ensures) (c₁ .before .before .if1 .left)) (c₁ .before .if2 .left) (c₁ .if3 .taken) (c .before .before .open-claim .ensures)
+    let a = c₃ .before .before .before .before .before .before .before .before .before .before .before .pre .0 in
+    pass-fresh (facts (c₃)) (a .newests) (complete-no (c₂ .is-complete .ensures) (c₁ .before .before .before .if1 .left)) (c₁ .before .before .if2 .left) (c₁ .before .claim-count .ensures .value) (c₁ .if3 .taken) (a .job) (a .table) (c .before .before .open-newest .ensures)
 
 sub-meets-worker : tie.Need-sub-meets-worker
 sub-meets-worker c = search needs
 
 meets-worker-requires : tie.Need-meets-worker-requires
 meets-worker-requires c κs =
-    let c₁ = c .before .before .before in
+    let c₁ = c .before .before .before .before in
     let c₂ = c₁ .before .before .before .before in
     let c₃ = c₂ .before .before .before .before .before .before .before .before .before .before .before in
     let a = c₃ .pre .0 in
@@ -129,7 +142,7 @@ meets-worker-requires c κs =
 
 take-over-requires : tie.Need-take-over-requires
 take-over-requires c κs =
-    let c₁ = c .before .before .before .before .before .before .before .before .before .before in
+    let c₁ = c .before .before .before .before .before .before .before .before .before .before .before in
     let c₂ = c₁ .before .before .before .before .before .before .before .before .before .before .before in
     let a = c₂ .pre in
     (moved-ready (facts (c₁)) (a .0), a .1 .0)
@@ -141,14 +154,10 @@ returns-4 : tie.Need-returns-4
 returns-4 c =
     let c₁ = c .before .before .before .before in
     let c₂ = c₁ .before .before .before in
-    let c₃ = c₂ .before .before .before in
+    let c₃ = c₂ .before .before .before .before in
     let c₄ = c₃ .before .before .before in
-    pass-took (facts (c₄)) (complete-no (c₃ .is-complete .ensures) (c₂ .before .before .if1 .left)) (c₂ .before .if2 .left) (c₂ .if3 .left) (c₁ .before .meets-worker .ensures) (c₁ .if4 .taken) (c .before .before .take-over .ensures)
-
-claim-count-requires : tie.Need-claim-count-requires
-claim-count-requires c κs =
-    let c₁ = c .before .before .before .before .before .before .before .before .before .before .before .before .before .before .before .before .before .before .before .before in
-    header-room _ (c₁ .pre .0 .job)
+    let a = c₄ .before .before .before .before .before .before .before .before .before .before .before .pre .0 in
+    pass-took (facts (c₄)) (a .newests) (complete-no (c₃ .is-complete .ensures) (c₂ .before .before .before .if1 .left)) (c₂ .before .before .if2 .left) (c₂ .before .claim-count .ensures .value) (c₂ .if3 .left) (c₁ .before .meets-worker .ensures) (c₁ .if4 .taken) (c .before .before .take-over .ensures)
 
 add-set-awaited : tie.Need-add-set-awaited
 add-set-awaited c =
@@ -158,11 +167,12 @@ add-set-awaited c =
 
 set-awaited-requires : tie.Need-set-awaited-requires
 set-awaited-requires c κs =
-    let c₁ = c .before .before .before .before .before .before .before .before .before .before .before in
-    let c₂ = c₁ .before .before .before .before .before .before .before .before .before .before .before in
-    let a = c₂ .pre .0 in
-    let g = facts (c₁) in
-    omega (arith, room _ _ (a .table), a .job .sized .claimsMost, g .low, g .worker, moved-length g, c .before .claim-count .ensures .value)
+    let c₁ = c .before .before .before .before .before in
+    let c₂ = c₁ .before .before .before .before .before .before in
+    let c₃ = c₂ .before .before .before .before .before .before .before .before .before .before .before in
+    let a = c₃ .pre .0 in
+    let g = facts (c₂) in
+    omega (arith, room _ _ (a .table), a .job .sized .claimsMost, g .low, g .worker, moved-length g, c₁ .claim-count .ensures .value)
 
 same-length-5 : tie.Need-same-length-5
 same-length-5 c = search needs
@@ -170,10 +180,11 @@ same-length-5 c = search needs
 returns-5 : tie.Need-returns-5
 returns-5 c =
     let c₁ = c .before .before .before .before in
-    let c₂ = c₁ .before .before .before .before in
-    let c₃ = c₂ .before .before .before in
+    let c₂ = c₁ .before .before .before in
+    let c₃ = c₂ .before .before .before .before in
     let c₄ = c₃ .before .before .before in
-    pass-waits (facts (c₄)) (complete-no (c₃ .is-complete .ensures) (c₂ .before .before .if1 .left)) (c₂ .before .if2 .left) (c₂ .if3 .left) (c₁ .before .before .meets-worker .ensures) (c₁ .before .if4 .left) (c₁ .claim-count .ensures .value) (c .before .before .set-awaited .ensures)
+    let a = c₄ .before .before .before .before .before .before .before .before .before .before .before .pre .0 in
+    pass-waits (facts (c₄)) (a .newests) (complete-no (c₃ .is-complete .ensures) (c₂ .before .before .before .if1 .left)) (c₂ .before .before .if2 .left) (c₂ .before .claim-count .ensures .value) (c₂ .if3 .left) (c₁ .before .meets-worker .ensures) (c₁ .if4 .left) (c .before .before .set-awaited .ensures)
 
 pub pass-clear-spec : {M : Type 1} → statement M
 pass-clear-spec =
@@ -191,7 +202,8 @@ pass-clear-spec =
     add-if2
     same-length-2
     returns-2
-    open-claim-requires
+    claim-count-requires
+    open-newest-requires
     same-length-3
     returns-3
     sub-meets-worker
@@ -199,7 +211,6 @@ pass-clear-spec =
     take-over-requires
     same-length-4
     returns-4
-    claim-count-requires
     add-set-awaited
     set-awaited-requires
     same-length-5

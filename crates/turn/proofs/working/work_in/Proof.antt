@@ -31,7 +31,7 @@ returns c =
     let c₃ = c₂ .before .before .before .before .before in
     let c₄ = c₃ .before .before .before .before .before .before in
     let g = c₃ .gather in
-    work-completed (c₄ .args .job .now) (c₄ .args .index .now) (c₄ .args .table .now) (c₄ .pre .0) (c₄ .args .w) (c₄ .args .n) (c₄ .pre .1 .1) (g .last .1 .1 .1 .1 .0) (g .kept .1 .1 .1 .1 .0 ∙ c₄ .pre .1 .0) (g .ensures) (c₂ .all-done .ensures) (c₁ .if1 .taken) (c .before .before .complete .ensures)
+    work-completed (c₄ .args .job .now) (c₄ .args .index .now) (c₄ .args .table .now) (c₄ .pre .0) (c₄ .args .w) (c₄ .args .n) (c₄ .pre .1 .1) (g .last .1 .1 .1 .1 .0) (g .kept .1 .1 .1 .1 .0 ∙ c₄ .pre .1 .0) (g .ensures) (c₂ .all-done .ensures) (c₄ .pre .1 .2) (c₁ .if1 .taken) (c .before .before .complete .ensures)
 
 newest-left-requires : tie.Need-newest-left-requires
 newest-left-requires c κs =
