@@ -85,7 +85,7 @@ fn say_later(line: &[u8], number: usize, first: &[u8]) {
     }
 }
 
-pub fn say_fault(text: &[u8], number: usize) {
+pub(crate) fn say_fault(text: &[u8], number: usize) {
     let first = line::line_of(text, 1);
     say(b": ");
     if number == 1 {

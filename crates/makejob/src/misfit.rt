@@ -75,7 +75,7 @@ fn say_remedy(sort: Sort, number: usize) {
     }
 }
 
-pub fn say_misfit(text: &[u8], number: usize) {
+pub(crate) fn say_misfit(text: &[u8], number: usize) {
     let line = line::line_of(text, number);
     let reach = shape::reach_of(line, number == 1);
     let sort = sort::sort_of(text, number, reach);

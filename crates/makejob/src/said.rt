@@ -8,11 +8,11 @@ use libc::STDERR_FILENO;
 // The most bytes of a part that are shown.
 const SHOWN: usize = 60;
 
-pub fn say(words: &[u8]) {
+pub(crate) fn say(words: &[u8]) {
     io::write_all(STDERR_FILENO, words);
 }
 
-pub fn say_number(number: usize) {
+pub(crate) fn say_number(number: usize) {
     io::print_decimal(STDERR_FILENO, number as u64);
 }
 
@@ -39,7 +39,7 @@ fn least(a: usize, b: usize) -> usize
 }
 
 // The first bytes of a part, and `..` where there are more.
-pub fn say_part(part: &[u8]) {
+pub(crate) fn say_part(part: &[u8]) {
     let n = least(part.len(), SHOWN);
     let mut shown = [0u8; SHOWN];
     for i in 0..n {

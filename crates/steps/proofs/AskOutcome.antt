@@ -107,7 +107,7 @@ module _ (j : Job) (J : JobOk j) (t : List ℕ) (R : InRange j t) (w : ℕ) (sma
           awaits = λ u. low-cong _ _ (λ l. X.stored-word j t w small (W.awaitedWord j u) (omega arith) (λ e. omega arith));
           claims =
               Q.claims (λ c l. X.stored-word j t w small (W.markWord c) (omega arith) (λ e. omega arith))
-              (λ c l. X.stored-word j t w small (W.numberWord c) (omega arith) (λ e. omega arith)) (X.stored-word j t w small 7 (omega arith) (λ e. omega arith));
+              (λ c l. X.stored-word j t w small (W.numberWord c) (omega arith) (λ e. omega arith)) (X.stored-word j t w small W.openedWord (omega arith) (λ e. omega arith));
           literals =
               Q.stays J (λ c l. same (X.stored-word j t w small (W.markWord c) (omega arith) (λ e. omega arith)))
               (λ c l. X.stored-word j t w small (W.cursorWord c) (omega arith) (λ e. omega arith));

@@ -13,10 +13,10 @@ use Rattle.turn.proofs.Cases.{literal, moved, taken, asked, Case, wakes
 pub open-length : (t : List ℕ) (w c : ℕ) → length (openClaim t w c) ≡ length t
 unfolding openClaim
 open-length t w c =
-    length-set (set (set (set t 7 (W.opened t + 1)) (W.markWord c) (w + 1)) (W.cursorWord c) 0) (W.numberWord c) (W.opened t + 1)
-    ∙ length-set (set (set t 7 (W.opened t + 1)) (W.markWord c) (w + 1)) (W.cursorWord c) 0
-    ∙ length-set (set t 7 (W.opened t + 1)) (W.markWord c) (w + 1)
-    ∙ length-set t 7 (W.opened t + 1)
+    length-set (set (set (set t W.openedWord (W.opened t + 1)) (W.markWord c) (w + 1)) (W.cursorWord c) 0) (W.numberWord c) (W.opened t + 1)
+    ∙ length-set (set (set t W.openedWord (W.opened t + 1)) (W.markWord c) (w + 1)) (W.cursorWord c) 0
+    ∙ length-set (set t W.openedWord (W.opened t + 1)) (W.markWord c) (w + 1)
+    ∙ length-set t W.openedWord (W.opened t + 1)
 
 pub mark-length : (f : ℕ → ℕ) (cs t : List ℕ) → length (markAll f cs t) ≡ length t
 unfolding markAll

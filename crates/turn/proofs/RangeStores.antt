@@ -45,7 +45,7 @@ module _ {j : Job} (t t′ : List ℕ) where
 
 -- what a store at word k, of v, has to respect
 pub record Fits (j : Job) (t : List ℕ) (k v : ℕ) : Type 0 where
-  pub from : 7 < k
+  pub from : W.openedWord < k
   pub below : k < W.used j
   pub mark : (c : ℕ) → c < j .claims → k ≡ W.markWord c → (W.mark t c ≡ 0 → ⊥) × (v ≡ 0 → ⊥) × GoodMark j v
   pub cursor : (c : ℕ) → c < j .claims → k ≡ W.cursorWord c → (W.mark t c ≡ 0 → ⊥) × (v ≤ length (literalsOf c (j .rules)))
@@ -116,7 +116,7 @@ module _ {j : Job} {t : List ℕ} (R : InRange j t) {k v : ℕ} (F : Fits j t k 
       record {
         room = omega (arith, R .room, length-set t k v);
         headerIs = λ i l. there i (λ e. omega (arith, F .from)) ∙ R .headerIs i l;
-        openedIs = there 7 (λ e. omega (arith, F .from)) ∙ R .openedIs ∙ sym (marked-same j t t′ kept-fresh);
+        openedIs = there W.openedWord (λ e. omega (arith, F .from)) ∙ R .openedIs ∙ sym (marked-same j t t′ kept-fresh);
         claim = claim-kept;
         awaits = λ w h. word (λ a. a ≤ j .claims) (W.awaitedWord j w) (F .awaits w h) (R .awaits w h);
         answers = λ w h. word (λ a. a ≤ length (askedBy j w)) (W.answeredWord j w) (F .answers w h) (R .answers w h);

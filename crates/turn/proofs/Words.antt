@@ -27,7 +27,7 @@ same t k v h = getD-set-same t k v 0 h
 
 module _ (t : List ℕ) (w b : ℕ) where
   abbrev t₁ : List ℕ
-  t₁ = set t 7 (W.opened t + 1)
+  t₁ = set t W.openedWord (W.opened t + 1)
 
   abbrev t₂ : List ℕ
   t₂ = set t₁ (W.markWord b) (w + 1)
@@ -35,14 +35,14 @@ module _ (t : List ℕ) (w b : ℕ) where
   abbrev t₃ : List ℕ
   t₃ = set t₂ (W.cursorWord b) 0
 
-  pub open-other : (i : ℕ) → (i ≡ 7 → ⊥) → (i ≡ W.markWord b → ⊥) → (i ≡ W.cursorWord b → ⊥) → (i ≡ W.numberWord b → ⊥) → getD (openClaim t w b) i 0 ≡ getD t i 0
+  pub open-other : (i : ℕ) → (i ≡ W.openedWord → ⊥) → (i ≡ W.markWord b → ⊥) → (i ≡ W.cursorWord b → ⊥) → (i ≡ W.numberWord b → ⊥) → getD (openClaim t w b) i 0 ≡ getD t i 0
   unfolding openClaim
   open-other i p q r s =
-      other t₃ (W.numberWord b) (W.opened t + 1) i s ∙ other t₂ (W.cursorWord b) 0 i r ∙ other t₁ (W.markWord b) (w + 1) i q ∙ other t 7 (W.opened t + 1) i p
+      other t₃ (W.numberWord b) (W.opened t + 1) i s ∙ other t₂ (W.cursorWord b) 0 i r ∙ other t₁ (W.markWord b) (w + 1) i q ∙ other t W.openedWord (W.opened t + 1) i p
 
   module _ (l : W.numberWord b < length t) where
     l₁ : length t₁ ≡ length t
-    l₁ = length-set t 7 (W.opened t + 1)
+    l₁ = length-set t W.openedWord (W.opened t + 1)
 
     l₂ : length t₂ ≡ length t
     l₂ = length-set t₁ (W.markWord b) (w + 1) ∙ l₁
@@ -67,8 +67,8 @@ module _ (t : List ℕ) (w b : ℕ) where
     pub open-opened : W.opened (openClaim t w b) ≡ W.opened t + 1
     unfolding openClaim
     open-opened =
-        other t₃ (W.numberWord b) (W.opened t + 1) 7 (λ e. omega arith) ∙ other t₂ (W.cursorWord b) 0 7 (λ e. omega arith)
-        ∙ other t₁ (W.markWord b) (w + 1) 7 (λ e. omega arith) ∙ same t 7 (W.opened t + 1) (omega arith)
+        other t₃ (W.numberWord b) (W.opened t + 1) W.openedWord (λ e. omega arith) ∙ other t₂ (W.cursorWord b) 0 W.openedWord (λ e. omega arith)
+        ∙ other t₁ (W.markWord b) (w + 1) W.openedWord (λ e. omega arith) ∙ same t W.openedWord (W.opened t + 1) (omega arith)
 
   module _ (c : ℕ) (n : c ≡ b → ⊥) where
     pub open-marks : W.mark (openClaim t w b) c ≡ W.mark t c
@@ -126,7 +126,7 @@ module _ (j : Job) (t : List ℕ) (w v : ℕ) where
     await-number = other t (W.awaitedWord j w) v (W.numberWord c) (λ e. omega arith)
 
   pub await-opened : W.opened (set t (W.awaitedWord j w) v) ≡ W.opened t
-  await-opened = other t (W.awaitedWord j w) v 7 (λ e. omega arith)
+  await-opened = other t (W.awaitedWord j w) v W.openedWord (λ e. omega arith)
 
   pub await-others : (u : ℕ) → (u ≡ w → ⊥) → W.awaited j (set t (W.awaitedWord j w) v) u ≡ W.awaited j t u
   await-others u n = other t (W.awaitedWord j w) v (W.awaitedWord j u) (λ e. n (omega arith))
@@ -146,7 +146,7 @@ module _ (j : Job) (t : List ℕ) (c v : ℕ) where
   cursor-others x n = other t (W.cursorWord c) v (W.cursorWord x) (λ e. n (omega arith))
 
   pub cursor-opened : W.opened (set t (W.cursorWord c) v) ≡ W.opened t
-  cursor-opened = other t (W.cursorWord c) v 7 (λ e. omega arith)
+  cursor-opened = other t (W.cursorWord c) v W.openedWord (λ e. omega arith)
 
   module _ (h : c < j .claims) (u : ℕ) where
     pub cursor-awaited : W.awaited j (set t (W.cursorWord c) v) u ≡ W.awaited j t u
@@ -170,7 +170,7 @@ module _ (j : Job) (f : ℕ → ℕ) (cs t : List ℕ) (b : (c : ℕ) → In c c
   marks-number c = marks-other f cs t (W.numberWord c) (λ d i e. omega arith)
 
   pub marks-opened : W.opened (markAll f cs t) ≡ W.opened t
-  marks-opened = marks-other f cs t 7 (λ d i e. omega arith)
+  marks-opened = marks-other f cs t W.openedWord (λ d i e. omega arith)
 
   pub marks-awaited : (u : ℕ) → W.awaited j (markAll f cs t) u ≡ W.awaited j t u
   marks-awaited u = marks-other f cs t (W.awaitedWord j u) (λ d i e. omega (arith, b d i))

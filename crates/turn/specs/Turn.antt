@@ -31,7 +31,7 @@ use Rattle.job.specs.declared.Literal.the-variants.{Plain, Negated}
 use Rattle.semantics.specs.Model.{programOf, verdict, exchange, knownOf}
 use Rattle.table.specs.Questions.{askedBy, questionClaim}
 use Rattle.table.specs.Newest.{newest, sought, withNewest}
-use Rattle.table.specs.Layout.{opened, markWord, cursorWord, numberWord, mark, cursor, awaitedWord, answeredWord, awaited, answered, answerWord, fresh, owned, complete, valueOf, markOf, values, falseMark, trueMark}
+use Rattle.table.specs.Layout.{openedWord, opened, markWord, cursorWord, numberWord, mark, cursor, awaitedWord, answeredWord, awaited, answered, answerWord, fresh, owned, complete, valueOf, markOf, values, falseMark, trueMark}
 use Rattle.turn.specs.declared.Kind.{Kind}
 use Rattle.turn.specs.declared.Kind.the-variants.{Idle, Woke, Opened, Waits, Took, Passed, Completed, Answered}
 
@@ -104,7 +104,7 @@ completedMark j t c = markOf (verdict (exchange (knownOf (values j t)) (programO
 unfoldable pub openClaim : List ℕ → ℕ → ℕ → List ℕ
 openClaim t w c =
     let n = opened t + 1 in
-    set (set (set (set t 7 n) (markWord c) (w + 1)) (cursorWord c) 0) (numberWord c) n
+    set (set (set (set t openedWord n) (markWord c) (w + 1)) (cursorWord c) 0) (numberWord c) n
 
 unfoldable pub markAll : (ℕ → ℕ) → List ℕ → List ℕ → List ℕ
 markAll f [] t = t
