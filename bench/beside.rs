@@ -3,7 +3,8 @@
 //! For libraries that make the same turns on tables of the same words; bench/run
 //! makes both shared ones.
 //!
-//! usage: beside evaluation|turns OLDER.so NEWER.so
+//! usage: beside OLDER.so NEWER.so evaluation
+//!        beside OLDER.so NEWER.so turns [KIND ..]
 
 #[allow(dead_code)]
 mod fields;
@@ -86,7 +87,7 @@ fn evaluation(older: &str, newer: &str) -> Vec<f64> {
     evaluated_fields().map(measure).collect()
 }
 
-fn turns(older: &str, newer: &str) -> Vec<f64> {
+fn turns(older: &str, newer: &str, kinds: &[String]) -> Vec<f64> {
     let (older, newer) = (runner(older), runner(newer));
     let measure = |field: Field| {
         let used = Layout::of_job(&job_of(&field.bytes), Orders::in_force()).used;
@@ -97,16 +98,16 @@ fn turns(older: &str, newer: &str) -> Vec<f64> {
             [&mut || _ = older(&field, &mut expected), &mut || _ = newer(&field, &mut words)];
         show(field.kind, field.seed, median_times_of(calls))
     };
-    run_fields(|_| true).map(measure).collect()
+    run_fields(|kind| kinds.is_empty() || kinds.iter().any(|name| name == kind)).map(measure).collect()
 }
 
 fn main() {
     let words: Vec<String> = std::env::args().skip(1).collect();
     println!("| kind    | seed |   before us |    after us | after/before |");
     println!("|---------|-----:|------------:|------------:|-------------:|");
-    let ratios = match words[0].as_str() {
-        "turns" => turns(&words[1], &words[2]),
-        _ => evaluation(&words[1], &words[2]),
+    let ratios = match words[2].as_str() {
+        "turns" => turns(&words[0], &words[1], &words[3..]),
+        _ => evaluation(&words[0], &words[1]),
     };
     println!();
     show_spread("after / before", ratios, "fields");

@@ -2,13 +2,30 @@
 //! from before order 2 are lent the same ones.
 
 use oracle::checks::{part_input, Job};
+use oracle::draft::{plain, Draft};
 use oracle::jobs::generate;
 use oracle::orders::Orders;
 use oracle::turns::run_listing;
 
 /// A made field: the job, then the schedule.
 pub fn made(kind: &str, seed: u64) -> Vec<u8> {
+    if kind == "knot" {
+        return knot(seed as usize).bytes();
+    }
     generate(kind, seed, Orders::of(&[])).expect("the kind is known")
+}
+
+/// So many claims in a ring, a power of two, each far from the next.  The one opened
+/// last leads to three times as many besides, so that most turns gather the whole
+/// ring and pass one literal.
+fn knot(claims: usize) -> Draft {
+    let mut draft = Draft::new(claims, 1);
+    let next = |claim: usize| (claim + claims * 5 / 8 + 1) % claims;
+    (0..claims).for_each(|claim| draft.rule(claim, &[plain(next(claim))]));
+    let last = claims - next(0);
+    draft.rule(last, &(0..3 * claims).map(|i| plain(7 * i % claims)).collect::<Vec<u16>>());
+    draft.ask(0, 0);
+    draft
 }
 
 pub fn job_of(bytes: &[u8]) -> Job {
@@ -37,7 +54,7 @@ pub fn evaluated_fields() -> impl Iterator<Item = (&'static str, u64, Vec<u8>)> 
 }
 
 /// Kinds and seeds of the fields that are run.
-const RUN: [(&str, &[u64]); 12] = [
+const RUN: [(&str, &[u64]); 13] = [
     ("tiny", &[1, 2, 3]),
     ("small", &[1, 2, 3]),
     ("ring", &[1, 2, 3, 4]),
@@ -48,6 +65,7 @@ const RUN: [(&str, &[u64]); 12] = [
     ("cluster", &[1, 2, 3, 4]),
     ("tower", &[1, 2, 3, 4]),
     ("failing", &[26, 36, 37, 44]),
+    ("knot", &[16, 256, 4096]),
     ("large", &[0, 1, 3, 4]),
     ("empty", &[1, 2]),
 ];

@@ -2,9 +2,14 @@
 
 use std::time::{Duration, Instant};
 
-/// Calls are made in turn for so long, but at most so often each.
+/// Calls are made in turn for so long, but at least and at most so often each.
 const LONG_ENOUGH: Duration = Duration::from_millis(600);
+const LEAST: usize = 5;
 const OFTEN_ENOUGH: usize = 501;
+
+fn go_on(rounds: usize, start: Instant) -> bool {
+    rounds < LEAST || (rounds < OFTEN_ENOUGH && start.elapsed() < LONG_ENOUGH)
+}
 
 fn time(call: &mut dyn FnMut()) -> f64 {
     let start = Instant::now();
@@ -17,7 +22,7 @@ fn time(call: &mut dyn FnMut()) -> f64 {
 pub fn median_times<const N: usize>(mut calls: [&mut dyn FnMut(); N]) -> [f64; N] {
     let start = Instant::now();
     let mut times = [(); N].map(|()| Vec::new());
-    while times[0].is_empty() || (times[0].len() < OFTEN_ENOUGH && start.elapsed() < LONG_ENOUGH) {
+    while go_on(times[0].len(), start) {
         for (times, call) in times.iter_mut().zip(&mut calls) {
             times.push(time(call));
         }
@@ -43,7 +48,7 @@ pub fn median_times_on<const N: usize>(words: &[u32], mut calls: [&mut dyn FnMut
     let start = Instant::now();
     let mut lent = words.to_vec();
     let mut times = [(); N].map(|()| Vec::new());
-    while times[0].is_empty() || (times[0].len() < OFTEN_ENOUGH && start.elapsed() < LONG_ENOUGH) {
+    while go_on(times[0].len(), start) {
         for (times, call) in times.iter_mut().zip(&mut calls) {
             lent.copy_from_slice(words);
             times.push(time(&mut || call(&mut lent)));

@@ -8,6 +8,7 @@
 #include <stdlib.h>
 #include <string.h>
 
+#include "made.h"
 #include "zestchintz.h"
 
 static int differences = 0;
@@ -20,21 +21,14 @@ static void expect(const char *what, uint64_t expected, uint64_t answer)
     }
 }
 
-static void put_word(uint8_t *at, uint32_t value)
-{
-    for (int i = 0; i < 4; i++)
-        at[i] = (uint8_t)(value >> (8 * i));
-}
-
 /* A job of so many claims and nothing else, in 36 bytes of the heap. */
 static uint8_t *bare_job(uint32_t claims)
 {
-    const uint32_t header[9] = {36, claims, 0, 0, 1, 0, 36, 36, 36};
-    uint8_t *job = malloc(36);
+    const uint32_t counts[5] = {claims, 0, 0, 1, 0};
+    uint8_t *job = malloc(BARE);
     if (job == NULL)
         exit(2);
-    for (int i = 0; i < 9; i++)
-        put_word(job + 4 * i, header[i]);
+    put_header(job, counts);
     return job;
 }
 

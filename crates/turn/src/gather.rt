@@ -20,14 +20,14 @@ use job::format;
 use table::words;
 
 // Room for the claims to be looked at.
-fn no_claims() -> [u32; MOST_CLAIMS]
+fn no_claims() -> [u16; MOST_CLAIMS]
     ensures { λ r. ⌜ length r ≡ mostClaims ⌝ }
 {
-    [0u32; MOST_CLAIMS]
+    [0u16; MOST_CLAIMS]
 }
 
 // Meets claim b: marks and pushes it, unless it is complete or was met before. Answers the stack's new top.
-fn visit(table: &[u32], b: usize, seen: &mut [u8], stack: &mut [u32], top: usize) -> usize
+fn visit(table: &[u32], b: usize, seen: &mut [u8], stack: &mut [u16], top: usize) -> usize
     requires { ⌜ (b < length (now seen)) × (workersFrom (length (now seen)) ≤ length (now table)) × Fits (length (now seen)) (record { seen = now seen; stack = now stack; top = top }) ⌝ }
     ensures { λ r. ⌜ visitOf (now (table .entry)) b (record { seen = now (seen .entry); stack = now (stack .entry); top = top }) ≡ record { seen = now (seen .exit); stack = now (stack .exit); top = r } ⌝ }
 {
@@ -38,7 +38,7 @@ fn visit(table: &[u32], b: usize, seen: &mut [u8], stack: &mut [u32], top: usize
         return top;
     }
     seen[b] = 1;
-    stack[top] = b as u32;
+    stack[top] = b as u16;
     top + 1
 }
 
@@ -50,7 +50,7 @@ fn expand(
     rules: usize,
     from: Cursor,
     seen: &mut [u8],
-    stack: &mut [u32],
+    stack: &mut [u16],
     bottom: usize,
 ) -> usize
     requires { ⌜ Room (now job) rules (now index) (now table) (length (now seen)) from (record { seen = now seen; stack = now stack; top = bottom }) ⌝ }
@@ -88,10 +88,10 @@ pub fn gather(job: &[u8], index: &ClaimIndex, table: &[u32], claim: usize, seen:
     let mut stack = no_claims();
     byte_sets::clear(seen);
     seen[claim] = 1;
-    stack[0] = claim as u32;
+    stack[0] = claim as u16;
     let mut top: usize = 1;
     while 0 < top {
-        let from = passed_over(index, table, wide::word(stack[top - 1]));
+        let from = passed_over(index, table, wide::half(stack[top - 1]));
         top = expand(job, index, table, rules, from, seen, &mut stack, top - 1);
     }
 }

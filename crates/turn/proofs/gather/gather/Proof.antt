@@ -25,9 +25,9 @@ few : (c : tie.In-loop Inv-loop μ-loop) → c .before .loop .top - 1 < mostClai
 few c = omega (arith, gathering-top (c .before .loop .inv .1))
 
 -- the claim taken off the stack
-low : (c : tie.After-word Inv-loop μ-loop) → c .word .result < claims (c .before .before .before .before .before .before .before .before .before .before .before .before .args .job .now)
+low : (c : tie.After-half Inv-loop μ-loop) → c .half .result < claims (c .before .before .before .before .before .before .before .before .before .before .before .before .args .job .now)
 low c =
-    next-low _ _ _ (c .before .before .before .before .before .before .before .before .before .before .before .before .pre .0) _ _ (c .before .before .loop .inv .1) (c .before .loop-test .taken) _ (c .word .ensures .value)
+    next-low _ _ _ (c .before .before .before .before .before .before .before .before .before .before .before .before .pre .0) _ _ (c .before .before .loop .inv .1) (c .before .loop-test .taken) _ (c .half .ensures .value)
 
 rule-count-requires : tie.Need-rule-count-requires Inv-loop μ-loop
 rule-count-requires c κs = header-room _ (c .before .before .before .pre .0 .job)
@@ -54,17 +54,17 @@ loop-holds c =
     let st = c .before .before .before .before .no-claims in
     (length-set (st .result) 0 _ ∙ st .ensures, gathering-start _ _ _ (w .last .0) (st .result) (start .pre .0 .job) (w .ensures) (w .kept .0 ∙ start .pre .1 .0) (start .pre .1 .1) (st .ensures))
 
-sub-word : tie.Need-sub-word Inv-loop μ-loop
-sub-word c = omega arith
+sub-half : tie.Need-sub-half Inv-loop μ-loop
+sub-half c = omega arith
 
-mul-word : tie.Need-mul-word Inv-loop μ-loop
-mul-word c = omega (arith, few c)
+mul-half : tie.Need-mul-half Inv-loop μ-loop
+mul-half c = omega (arith, few c)
 
-array-read-word : tie.Need-array-read-word Inv-loop μ-loop
-array-read-word c = few c
+array-read-half : tie.Need-array-read-half Inv-loop μ-loop
+array-read-half c = few c
 
-word-requires : tie.Need-word-requires Inv-loop μ-loop
-word-requires c κs = tt
+half-requires : tie.Need-half-requires Inv-loop μ-loop
+half-requires c κs = tt
 
 passed-over-requires : tie.Need-passed-over-requires Inv-loop μ-loop
 passed-over-requires c κs =
@@ -84,7 +84,7 @@ expand-requires c κs =
     let l = a .before .before .loop in
     let r = a .before .before .before .before .before .before .before .before .before .before .before .before .pre .0 in
     passed-room _ _ _ r _ (low a) _ (c .before .before .before .before .before .before .before .before .before .before .before .rule-count .ensures .value) _ (c .before .before .passed-over .ensures) _ _ (l .inv .1 .fits .long)
-    (next-fits _ _ _ r _ _ (l .inv .1) (a .before .loop-test .taken) _ (a .word .ensures .value))
+    (next-fits _ _ _ r _ _ (l .inv .1) (a .before .loop-test .taken) _ (a .half .ensures .value))
 
 loop-less : tie.Need-loop-less Inv-loop μ-loop
 loop-less c =
@@ -93,7 +93,7 @@ loop-less c =
     let c₃ = c₂ .before .before .before .before .before .before .before .before in
     let l = c₂ .before .before .loop in
     let r = c₂ .before .before .before .before .before .before .before .before .before .before .before .before .pre .0 in
-    gathering-less _ _ _ r _ _ (l .inv .1) (c₂ .before .loop-test .taken) _ (c₂ .word .ensures .value) _ (c₃ .rule-count .ensures .value) _ (c₁ .passed-over .ensures) _ (c .before .before .before .expand .ensures)
+    gathering-less _ _ _ r _ _ (l .inv .1) (c₂ .before .loop-test .taken) _ (c₂ .half .ensures .value) _ (c₃ .rule-count .ensures .value) _ (c₁ .passed-over .ensures) _ (c .before .before .before .expand .ensures)
 
 loop-again : tie.Need-loop-again Inv-loop μ-loop
 loop-again c =
@@ -102,7 +102,7 @@ loop-again c =
     let c₃ = c₂ .before .before .before .before .before .before .before .before in
     let l = c₂ .before .before .loop in
     let r = c₂ .before .before .before .before .before .before .before .before .before .before .before .before .pre .0 in
-    (c .before .before .before .expand .kept .1 .1 .1 .1 .1 .1 .0 ∙ l .inv .0, gathering-more _ _ _ r _ _ (l .inv .1) (c₂ .before .loop-test .taken) _ (c₂ .word .ensures .value) _ (c₃ .rule-count .ensures .value) _ (c₁ .passed-over .ensures) _ (c .before .before .before .expand .ensures))
+    (c .before .before .before .expand .kept .1 .1 .1 .1 .1 .1 .0 ∙ l .inv .0, gathering-more _ _ _ r _ _ (l .inv .1) (c₂ .before .loop-test .taken) _ (c₂ .half .ensures .value) _ (c₃ .rule-count .ensures .value) _ (c₁ .passed-over .ensures) _ (c .before .before .before .expand .ensures))
 
 same-length : tie.Need-same-length Inv-loop μ-loop
 same-length c = c .before .loop .inv .1 .fits .long ∙ sym (c .before .before .before .before .before .before .before .before .before .before .before .pre .1 .0)
@@ -125,10 +125,10 @@ gather-spec =
     cast-stack
     array-write-stack
     loop-holds
-    sub-word
-    mul-word
-    array-read-word
-    word-requires
+    sub-half
+    mul-half
+    array-read-half
+    half-requires
     passed-over-requires
     slice-aggregate-expand
     sub-expand

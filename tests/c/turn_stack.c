@@ -1,0 +1,63 @@
+/*
+ * How much stack a turn takes that gathers 4,096 claims, and one that completes
+ * them.  Prints the bytes; exit status 1 where they are over the limits.
+ */
+#define _POSIX_C_SOURCE 200809L
+#include <stdio.h>
+
+#include "made.h"
+#include "painted.h"
+
+/* The calls on a table, of the library that is built for tests alone. */
+uint64_t table_start(const uint8_t *job, size_t length, uint32_t *table, size_t words);
+uint64_t table_turn(const uint8_t *job, size_t length, uint32_t *table, size_t words, size_t worker);
+
+enum { RING_RULES = CLAIMS + 1, JOB = BARE + 4 * RING_RULES + 2 * LITERALS + 4 };
+enum { LAST = CLAIMS - 1, LAST_LITERALS = LITERALS - LAST };
+enum { WORDS = 8 + 3 * CLAIMS + 3 * 1 + 1, LAST_PASSED = 8 + 3 * LAST + 1 };
+enum { IDLE = 0, PASSED = 5, COMPLETED = 6, KINDS = 8 };
+
+static uint8_t job[JOB];
+static uint32_t table[WORDS];
+static uint64_t kind;
+
+/* Each claim leads to the next in a ring, the last one to every claim three times besides. */
+static void fill_ring(void)
+{
+    const uint32_t counts[5] = {CLAIMS, RING_RULES, LITERALS, 1, 1};
+    put_header(job, counts);
+    uint8_t *at = job + BARE;
+    for (unsigned claim = 0; claim < CLAIMS; claim++)
+        at = put_half(put_half(at, claim), 1);
+    at = put_half(put_half(at, LAST), LAST_LITERALS - 1);
+    for (unsigned k = 0; k < LITERALS; k++)
+        at = put_half(at, (k + 1) % CLAIMS);
+    put_half(put_half(at, 0), 0);
+}
+
+static void *turn(void *given)
+{
+    kind = table_turn(job, JOB, table, WORDS, 0);
+    return given;
+}
+
+/* Turns until the last claim has passed so many literals, then one of this kind: whether it keeps to the limit. */
+static int keeps_to(size_t limit, const char *name, uint64_t wanted, uint32_t passed)
+{
+    while (table[LAST_PASSED] < passed) {
+        turn(NULL);
+        if (kind == IDLE || kind >= KINDS)
+            return 0;
+    }
+    const size_t bytes = taken(turn, NULL);
+    printf("a turn that %s 4,096 claims: %zu bytes of stack, limit %zu\n", name, bytes, limit);
+    return kind == wanted && bytes <= limit;
+}
+
+int main(void)
+{
+    fill_ring();
+    if (table_start(job, JOB, table, WORDS) != 0)
+        return 2;
+    return !(keeps_to(36000, "gathers", PASSED, 1) && keeps_to(200000, "completes", COMPLETED, LAST_LITERALS));
+}
