@@ -1,9 +1,9 @@
--- The loop of `gather`: a worklist that holds all that is reached and not yet looked at. Assumes nothing.
+-- The loop of `gather`: a queue, of which the part from i on holds all that is met and not yet looked at. Assumes nothing.
 --   passed-met        the literals that a claim has passed, as the index and the table's cursor give them
---   passed-room       meeting their claims stays within job, table and stack
+--   passed-room       meeting their claims stays within job, table and queue
 --   leads-parts, -of  what a claim leads to is what a walk over its passed literals meets
---   Gathering         what the loop keeps, with its laws: gathering-start, -more, -less, -done
-use Prim.Native.Nat.{ℕ, _+_, _*_, _-_, _≤_, _<_}
+--   Gathering         what the loop keeps, with its laws: gathering-start, -more, -done
+use Prim.Native.Nat.{ℕ, _+_, _-_, _≤_, _<_}
 use mathlib.Core.Path.{_≡_, refl, sym, _∙_, ap, ap₂, subst, subst⁻¹}
 use mathlib.Core.Bool.{not}
 use mathlib.Core.List.{List, map}
@@ -15,12 +15,11 @@ use lib.ListN.{length, getD, set, length-set, List·getD-eq-default}
 use lib.Seq.{getD-set-same}
 use Rattle.base.specs.Graph.{Reach, here}
 use Rattle.base.specs.Lists.{isIn}
-use Rattle.base.specs.Sets.{count}
 use Rattle.base.specs.Span.{span}
 use Rattle.base.proofs.Bools.{same}
 use Rattle.base.proofs.Lists.{In}
 use Rattle.base.proofs.Paths.{trans, one, stays}
-use Rattle.base.proofs.Sets.{count-le, count-mono, count-less}
+use Rattle.base.proofs.Sets.{count-le, count-less}
 use Rattle.base.proofs.Span.{map-span}
 use Rattle.job.specs.Job.{claimOf, mostClaims, mostLiterals}
 use Rattle.job.specs.Format.{claims, rules, literalAt, jobOf}
@@ -38,7 +37,7 @@ use Rattle.turn.proofs.Jobs.{lits-length, job-ok}
 use Rattle.turn.proofs.Reached.{Leads, reached-in, in-reached}
 use Rattle.turn.proofs.Leading.{leads-passed, passed-leads, leads-low}
 use Rattle.turn.proofs.Walk.{end-is, end-past, Clear, met-in, in-met}
-use Rattle.turn.proofs.Worklist.{set-there, set-other, Stands, at, Was, before, new, Grown, grown-fits, visits-grown}
+use Rattle.turn.proofs.Worklist.{set-there, set-other, at, Was, before, new, Grown, grown-fits, visits-grown}
 
 -- what is in a set has a byte
 seen-low : (w : List ℕ) (d : ℕ) → T (setOf w d) → d < length w
@@ -146,112 +145,102 @@ module _ (s index t : List ℕ) (r : Ready s index t) (d : ℕ) (l : d < claims 
           fits = subst⁻¹ (λ (x : ℕ). Fits x k) i f;
         }
 
--- a claim of the set stands on the stack, or all that it leads to is in the set
-pub data Looked (s t : List ℕ) (k : Work) (d : ℕ) : Type 0 where
-  waits : Stands k d → Looked s t k d
-  closed : ((e : ℕ) → Leads (jobOf s) t d e → T (setOf (k .seen) e)) → Looked s t k d
+-- a claim of the set stands in the queue from i on, or all that it leads to is in the set
+pub data Looked (s t : List ℕ) (i : ℕ) (k : Work) (d : ℕ) : Type 0 where
+  waits : (j : ℕ) → i ≤ j → j < k .top → getD (k .queue) j 0 ≡ d → Looked s t i k d
+  closed : ((e : ℕ) → Leads (jobOf s) t d e → T (setOf (k .seen) e)) → Looked s t i k d
 
-pub record Gathering (s t : List ℕ) (claim : ℕ) (k : Work) : Type 0 where
+pub record Gathering (s t : List ℕ) (claim i : ℕ) (k : Work) : Type 0 where
   pub fits : Fits (claims s) k
   pub start : T (setOf (k .seen) claim)
   pub sound : (d : ℕ) → T (setOf (k .seen) d) → Reach (Leads (jobOf s) t) claim d
-  pub stacked : (i : ℕ) → i < k .top → T (setOf (k .seen) (getD (k .stack) i 0))
-  pub looked : (d : ℕ) → T (setOf (k .seen) d) → Looked s t k d
+  pub listed : (j : ℕ) → j < k .top → T (setOf (k .seen) (getD (k .queue) j 0))
+  pub looked : (d : ℕ) → T (setOf (k .seen) d) → Looked s t i k d
 
-pub gathering-top : {s t : List ℕ} {claim : ℕ} {k : Work} → Gathering s t claim k → k .top ≤ mostClaims
-gathering-top {s} {t} {claim} {k} g = omega (arith, g .fits .few, g .fits .most, count-le (setOf (k .seen)) (claims s))
-
-abbrev pub left : List ℕ → Work → ℕ
-left s k = 2 * (claims s - count (setOf (k .seen)) (claims s)) + k .top
+pub gathering-top : {s t : List ℕ} {claim i : ℕ} {k : Work} → Gathering s t claim i k → k .top ≤ claims s
+gathering-top {s} {t} {claim} {i} {k} g = omega (arith, g .fits .most, count-le (setOf (k .seen)) (claims s))
 
 -- the claim alone, in a set that was cleared
-pub gathering-start : (s t : List ℕ) (claim : ℕ) (w st : List ℕ) → WellFormed s → ((d : ℕ) → getD w d 0 ≡ 0) → length w ≡ claims s → claim < claims s → length st ≡ mostClaims → Gathering s t claim (record { seen = set w claim 1; stack = set st 0 claim; top = 1 })
-gathering-start s t claim w st f zeros long l deep =
+pub gathering-start : (s t : List ℕ) (claim : ℕ) (w q : List ℕ) → WellFormed s → ((d : ℕ) → getD w d 0 ≡ 0) → length w ≡ claims s → claim < claims s → length q ≡ mostClaims → Gathering s t claim 0 (record { seen = set w claim 1; queue = set q 0 claim; top = 1 })
+gathering-start s t claim w q f zeros long l wide =
     let inside : claim < length w = omega arith in
     let there = set-there w claim inside in
     let alone : (d : ℕ) → T (setOf (set w claim 1) d) → d ≡ claim =
     λ d h. by-cases (ℕ-discrete d claim) (λ e. e) (λ n. absurd (cleared-none w zeros d (subst T (set-other w claim d n) h))) in
-    let top : getD (set st 0 claim) 0 0 ≡ claim = getD-set-same st 0 claim 0 (omega arith) in
+    let first : getD (set q 0 claim) 0 0 ≡ claim = getD-set-same q 0 claim 0 (omega arith) in
     record {
       fits = record {
         few = f .sized .claimsMost;
         long = length-set w claim 1 ∙ long;
-        wide = omega (arith, f .sized .claimsMost, length-set st 0 claim);
+        wide = omega (arith, f .sized .claimsMost, length-set q 0 claim);
         most = omega (arith, count-less (setOf w) (setOf (set w claim 1)) (λ d h. absurd (cleared-none w zeros d h)) (claims s) claim l there (cleared-none w zeros claim));
       };
       start = there;
       sound = λ d h. rw (alone d h) here;
-      stacked = λ i h.
-          let z : i ≡ 0 = omega arith in
-          subst⁻¹ (λ (x : ℕ). T (setOf (set w claim 1) x)) (ap (λ (x : ℕ). getD (set st 0 claim) x 0) z ∙ top) there;
-      looked = λ d h. waits (at 0 (omega arith) (top ∙ sym (alone d h)));
+      listed = λ j h.
+          let z : j ≡ 0 = omega arith in
+          subst⁻¹ (λ (x : ℕ). T (setOf (set w claim 1) x)) (ap (λ (x : ℕ). getD (set q 0 claim) x 0) z ∙ first) there;
+      looked = λ d h. waits 0 (omega arith) (omega arith) (first ∙ sym (alone d h));
     }
 
--- a claim d taken off the stack, and the claims met whose literals it has passed
-module _ (s index t : List ℕ) (r : Ready s index t) (claim : ℕ) (k : Work) (g : Gathering s t claim k) (some : 0 < k .top) (d : ℕ) (e : d ≡ getD (k .stack) (k .top - 1) 0) where
-  abbrev popped : Work
-  popped = record { seen = k .seen; stack = k .stack; top = k .top - 1 }
-
-  pub next-seen : T (setOf (k .seen) d)
-  next-seen = subst⁻¹ (λ (x : ℕ). T (setOf (k .seen) x)) e (g .stacked (k .top - 1) (omega arith))
+-- the claim d at place i of the queue, and the claims met whose literals it has passed
+module _ (s index t : List ℕ) (r : Ready s index t) (claim i : ℕ) (k : Work) (g : Gathering s t claim i k) (some : i < k .top) (d : ℕ) (e : d ≡ getD (k .queue) i 0) where
+  next-seen : T (setOf (k .seen) d)
+  next-seen = subst⁻¹ (λ (x : ℕ). T (setOf (k .seen) x)) e (g .listed i some)
 
   pub next-low : d < claims s
   next-low = omega (arith, seen-low (k .seen) d next-seen, g .fits .long)
 
-  pub next-fits : Fits (claims s) popped
-  next-fits = record { few = g .fits .few; long = g .fits .long; wide = g .fits .wide; most = omega (arith, g .fits .most) }
-
-  module _ (m : ℕ) (i : m ≡ rules s) (c : Cursor) (q : c ≡ passedCursor index t d) (k′ : Work) (v : visits t (met s m index t c) popped ≡ k′) where
+  module _ (m : ℕ) (h : m ≡ rules s) (c : Cursor) (q : c ≡ passedCursor index t d) (k′ : Work) (v : visits t (met s m index t c) k ≡ k′) where
     abbrev ones : List ℕ
     ones = taken s index t r d next-low
 
-    grown : Grown t (claims s) ones popped k′
+    grown : Grown t (claims s) ones k k′
     grown =
-        subst (λ (x : Work). Grown t (claims s) ones popped x) (ap (λ (bs : List ℕ). visits t bs popped) (sym (passed-met s index t r d next-low m i c q)) ∙ v)
-        (visits-grown t (claims s) ones popped next-fits (λ b h. taken-low s index t r d next-low b h))
+        subst (λ (x : Work). Grown t (claims s) ones k x) (ap (λ (bs : List ℕ). visits t bs k) (sym (passed-met s index t r d next-low m h c q)) ∙ v)
+        (visits-grown t (claims s) ones k (g .fits) (λ b h. taken-low s index t r d next-low b h))
 
-    found : (b : ℕ) → Was t ones popped k′ b → Reach (Leads (jobOf s) t) claim b
+    found : (b : ℕ) → Was t ones k k′ b → Reach (Leads (jobOf s) t) claim b
     found b (before h) = g .sound b h
     found b (new h n x) = trans (g .sound d next-seen) (one (leads-of s index t r d next-low b h n))
 
     shut : (x : ℕ) → x ≡ d → (b : ℕ) → Leads (jobOf s) t x b → T (setOf (k′ .seen) b)
     shut x z b y = let p = leads-parts s index t r d next-low b (rw z at y) in grown .met b (p .0) (p .1)
 
-    still : (b : ℕ) → Looked s t k b → Looked s t k′ b
+    still : (b : ℕ) → Looked s t i k b → Looked s t (i + 1) k′ b
     still b (closed f) = closed (λ x y. grown .keeps x (f x y))
-    still b (waits (at j h z)) =
-        by-cases (decLt j (k .top - 1)) (λ l. waits (at j (omega (arith, grown .higher)) (grown .below j l ∙ z)))
-        (λ n. let y : j ≡ k .top - 1 = omega arith in closed (shut b (sym z ∙ (ap (λ (x : ℕ). getD (k .stack) x 0) y ∙ sym e))))
+    still b (waits j l h z) =
+        by-cases (ℕ-discrete j i) (λ y. closed (shut b (sym z ∙ (ap (λ (x : ℕ). getD (k .queue) x 0) y ∙ sym e))))
+        (λ n. waits j (omega arith) (omega (arith, grown .higher)) (grown .below j h ∙ z))
 
-    looks : (b : ℕ) → Was t ones popped k′ b → Looked s t k′ b
+    -- a claim met for the first time stands behind all that were met before
+    looks : (b : ℕ) → Was t ones k k′ b → Looked s t (i + 1) k′ b
     looks b (before h) = still b (g .looked b h)
-    looks b (new h n x) = waits x
+    looks b (new h n (at j l z)) =
+        by-cases (decLt j (k .top)) (λ y. still b (g .looked b (subst (λ (x : ℕ). T (setOf (k .seen) x)) (sym (grown .below j y) ∙ z) (g .listed j y))))
+        (λ y. waits j (omega arith) l z)
 
-    pub gathering-more : Gathering s t claim k′
+    pub gathering-more : Gathering s t claim (i + 1) k′
     gathering-more =
         record {
-          fits = grown-fits t (claims s) ones popped k′ next-fits grown;
+          fits = grown-fits t (claims s) ones k k′ (g .fits) grown;
           start = grown .keeps claim (g .start);
           sound = λ b h. found b (grown .was b h);
-          stacked = λ j h.
-              by-cases (decLt j (k .top - 1))
-              (λ l. subst⁻¹ (λ (x : ℕ). T (setOf (k′ .seen) x)) (grown .below j l) (grown .keeps _ (g .stacked j (omega arith))))
-              (λ n. grown .stacked j (omega arith) h);
+          listed = λ j h.
+              by-cases (decLt j (k .top))
+              (λ l. subst⁻¹ (λ (x : ℕ). T (setOf (k′ .seen) x)) (grown .below j l) (grown .keeps _ (g .listed j l)))
+              (λ n. grown .listed j (omega arith) h);
           looked = λ b h. looks b (grown .was b h);
         }
 
-    pub gathering-less : left s k′ < left s k
-    gathering-less =
-        omega (arith, grown .counted, count-mono (setOf (k .seen)) (setOf (k′ .seen)) (grown .keeps) (claims s), count-le (setOf (k′ .seen)) (claims s))
-
--- with nothing on the stack the set is closed and holds the claim: it is what is reached
-module _ (s index t : List ℕ) (r : Ready s index t) (claim : ℕ) (l : claim < claims s) (k : Work) (g : Gathering s t claim k) (none : k .top ≤ 0) where
+-- where all of the queue was looked at, the set is closed and holds the claim: it is what is reached
+module _ (s index t : List ℕ) (r : Ready s index t) (claim : ℕ) (l : claim < claims s) (i : ℕ) (k : Work) (g : Gathering s t claim i k) (none : k .top ≤ i) where
   shut-all : (x y : ℕ) → Leads (jobOf s) t x y → T (setOf (k .seen) x) → T (setOf (k .seen) y)
   shut-all x y h z = go (g .looked x z)
     where
-      go : Looked s t k x → T (setOf (k .seen) y)
+      go : Looked s t i k x → T (setOf (k .seen) y)
       go (closed f) = f y h
-      go (waits (at i b e)) = absurd (omega arith)
+      go (waits j a b e) = absurd (omega arith)
 
   pub gathering-done : (d : ℕ) → setOf (k .seen) d ≡ isIn d (reached (jobOf s) t claim)
   gathering-done d =

@@ -1,8 +1,8 @@
 -- Laws of `visits`: what meeting claims does to the worklist. Assumes nothing.
---   Stands k d           d stands on the stack
+--   Stands k d           d stands in the queue
 --   Grown t n bs k k′    how the worklist k became k′ when the claims bs were met, of n claims
 --   visit-there, -push   one claim met, by the tests that the code makes
---   visit-room, push-room   where there is room on the stack
+--   push-room            where there is room in the queue
 --   visits-grown         the claims bs met, in order
 --   Expanding            a loop over a cursor's claims, with its laws: expanding-start, -less, -more, -done
 use Prim.Native.Nat.{ℕ, _+_, _≤_, _<_}
@@ -44,39 +44,39 @@ module _ (w : List ℕ) (b : ℕ) where
       by-cases (ℕ-discrete d b) (λ e. subst⁻¹ (λ (x : ℕ). T (setOf (set w b 1) x)) e (set-there l)) (λ n. subst⁻¹ T (set-other d n) h)
 
 pub data Stands (k : Work) (d : ℕ) : Type 0 where
-  at : (i : ℕ) → i < k .top → getD (k .stack) i 0 ≡ d → Stands k d
+  at : (i : ℕ) → i < k .top → getD (k .queue) i 0 ≡ d → Stands k d
 
--- a claim in the set was there before, or was met, is not complete and stands on the stack
+-- a claim in the set was there before, or was met, is not complete and stands in the queue
 pub data Was (t bs : List ℕ) (k k′ : Work) (d : ℕ) : Type 0 where
   before : T (setOf (k .seen) d) → Was t bs k k′ d
   new : In d bs → T (not (complete t d)) → Stands k′ d → Was t bs k k′ d
 
 pub record Grown (t : List ℕ) (n : ℕ) (bs : List ℕ) (k k′ : Work) : Type 0 where
   pub long : length (k′ .seen) ≡ n
-  pub deep : length (k′ .stack) ≡ length (k .stack)
+  pub wide : length (k′ .queue) ≡ length (k .queue)
   pub keeps : setOf (k .seen) ⊆ setOf (k′ .seen)
   pub met : (d : ℕ) → In d bs → T (not (complete t d)) → T (setOf (k′ .seen) d)
   pub was : (d : ℕ) → T (setOf (k′ .seen) d) → Was t bs k k′ d
-  pub below : (i : ℕ) → i < k .top → getD (k′ .stack) i 0 ≡ getD (k .stack) i 0
+  pub below : (i : ℕ) → i < k .top → getD (k′ .queue) i 0 ≡ getD (k .queue) i 0
   pub higher : k .top ≤ k′ .top
-  pub stacked : (i : ℕ) → k .top ≤ i → i < k′ .top → T (setOf (k′ .seen) (getD (k′ .stack) i 0))
+  pub listed : (i : ℕ) → k .top ≤ i → i < k′ .top → T (setOf (k′ .seen) (getD (k′ .queue) i 0))
   pub counted : k′ .top + count (setOf (k .seen)) n ≤ k .top + count (setOf (k′ .seen)) n
 
 pub grown-fits : (t : List ℕ) (n : ℕ) (bs : List ℕ) (k k′ : Work) → Fits n k → Grown t n bs k k′ → Fits n k′
-grown-fits t n bs k k′ f g = record { few = f .few; long = g .long; wide = omega (arith, f .wide, g .deep); most = omega (arith, f .most, g .counted) }
+grown-fits t n bs k k′ f g = record { few = f .few; long = g .long; wide = omega (arith, f .wide, g .wide); most = omega (arith, f .most, g .counted) }
 
 module _ (t : List ℕ) (n : ℕ) where
   none-met : (k : Work) → length (k .seen) ≡ n → (bs : List ℕ) → ((d : ℕ) → In d bs → T (not (complete t d)) → T (setOf (k .seen) d)) → Grown t n bs k k
   none-met k e bs f =
       record {
         long = e;
-        deep = refl;
+        wide = refl;
         keeps = λ d h. h;
         met = f;
         was = λ d h. before h;
         below = λ i l. refl;
         higher = omega arith;
-        stacked = λ i g l. absurd (omega arith);
+        listed = λ i g l. absurd (omega arith);
         counted = omega arith;
       }
 
@@ -87,25 +87,25 @@ module _ (t : List ℕ) (n : ℕ) where
       go (first e) = rw e p
       go (later m) = absurd (in-nil d m)
 
-  pushed : (b : ℕ) (k : Work) → b < n → Fits n k → T (not (complete t b)) → (T (setOf (k .seen) b) → ⊥) → Grown t n (b ∷ []) k (record { seen = set (k .seen) b 1; stack = set (k .stack) (k .top) b; top = k .top + 1 })
+  pushed : (b : ℕ) (k : Work) → b < n → Fits n k → T (not (complete t b)) → (T (setOf (k .seen) b) → ⊥) → Grown t n (b ∷ []) k (record { seen = set (k .seen) b 1; queue = set (k .queue) (k .top) b; top = k .top + 1 })
   pushed b k l f open′ out =
       let inside : b < length (k .seen) = omega (arith, f .long) in
       let less = count-less (setOf (k .seen)) (setOf (set (k .seen) b 1)) (set-keeps (k .seen) b inside) n b l (set-there (k .seen) b inside) out in
-      let deep : k .top < length (k .stack) = omega (arith, f .most, f .wide, count-le (setOf (set (k .seen) b 1)) n) in
+      let wide : k .top < length (k .queue) = omega (arith, f .most, f .wide, count-le (setOf (set (k .seen) b 1)) n) in
       record {
         long = length-set (k .seen) b 1 ∙ f .long;
-        deep = length-set (k .stack) (k .top) b;
+        wide = length-set (k .queue) (k .top) b;
         keeps = set-keeps (k .seen) b inside;
         met = λ d i h. only b d (λ x. T (setOf (set (k .seen) b 1) x)) (set-there (k .seen) b inside) i;
         was = λ d h.
             by-cases (ℕ-discrete d b)
-            (λ e. new (rw e (in-head b [])) (rw e open′) (at (k .top) (omega arith) (getD-set-same (k .stack) (k .top) b 0 deep ∙ sym e)))
+            (λ e. new (rw e (in-head b [])) (rw e open′) (at (k .top) (omega arith) (getD-set-same (k .queue) (k .top) b 0 wide ∙ sym e)))
             (λ m. before (subst T (set-other (k .seen) b d m) h));
-        below = λ i h. getD-set-other (k .stack) (k .top) i b 0 (λ e. omega arith);
+        below = λ i h. getD-set-other (k .queue) (k .top) i b 0 (λ e. omega arith);
         higher = omega arith;
-        stacked = λ i g h.
+        listed = λ i g h.
             let e : i ≡ k .top = omega arith in
-            subst⁻¹ (λ (x : ℕ). T (setOf (set (k .seen) b 1) x)) (ap (λ (x : ℕ). getD (set (k .stack) (k .top) b) x 0) e ∙ getD-set-same (k .stack) (k .top) b 0 deep)
+            subst⁻¹ (λ (x : ℕ). T (setOf (set (k .seen) b 1) x)) (ap (λ (x : ℕ). getD (set (k .queue) (k .top) b) x 0) e ∙ getD-set-same (k .queue) (k .top) b 0 wide)
             (set-there (k .seen) b inside);
         counted = omega (arith, less);
       }
@@ -124,16 +124,16 @@ module _ (t : List ℕ) (n : ℕ) where
   more b bs k₀ k₁ k₂ f g =
       record {
         long = g .long;
-        deep = g .deep ∙ f .deep;
+        wide = g .wide ∙ f .wide;
         keeps = λ d h. g .keeps d (f .keeps d h);
         met = λ d i h. meet d h (in-cases d b bs i);
         was = λ d h. came d (g .was d h);
         below = λ i l. g .below i (omega (arith, f .higher)) ∙ f .below i l;
         higher = omega (arith, f .higher, g .higher);
-        stacked = λ i a l.
+        listed = λ i a l.
             by-cases (decLt i (k₁ .top))
-            (λ s. subst⁻¹ (λ (x : ℕ). T (setOf (k₂ .seen) x)) (g .below i s) (g .keeps _ (f .stacked i a s)))
-            (λ s. g .stacked i (omega arith) l);
+            (λ s. subst⁻¹ (λ (x : ℕ). T (setOf (k₂ .seen) x)) (g .below i s) (g .keeps _ (f .listed i a s)))
+            (λ s. g .listed i (omega arith) l);
         counted = omega (arith, f .counted, g .counted);
       }
     where
@@ -162,8 +162,8 @@ module _ (t : List ℕ) (n : ℕ) where
   pub visit-fits : (b : ℕ) (k : Work) → b < n → Fits n k → Fits n (visit t b k)
   visit-fits b k l f = grown-fits t n (b ∷ []) k (visit t b k) f (visit-grown b k l f)
 
-  pub visit-deep : (b : ℕ) (k : Work) → b < n → Fits n k → length (visit t b k .stack) ≡ length (k .stack)
-  visit-deep b k l f = visit-grown b k l f .deep
+  pub visit-wide : (b : ℕ) (k : Work) → b < n → Fits n k → length (visit t b k .queue) ≡ length (k .queue)
+  visit-wide b k l f = visit-grown b k l f .wide
 
 -- one claim met, by the tests that the code makes
 module _ (t : List ℕ) (b : ℕ) (k : Work) (m : ℕ) (read : m ≡ mark t b) where
@@ -176,12 +176,12 @@ module _ (t : List ℕ) (b : ℕ) (k : Work) (m : ℕ) (read : m ≡ mark t b) w
     unfolding visit
     visit-there e = pick-no (complete t b) _ _ (is-not _ (lt-leb trueMark (mark t b) (omega arith))) ∙ pick-yes (setOf (k .seen) b) _ _ (is _ e)
 
-    pub visit-push : setOf (k .seen) b ≡ false → visit t b k ≡ record { seen = set (k .seen) b 1; stack = set (k .stack) (k .top) b; top = k .top + 1 }
+    pub visit-push : setOf (k .seen) b ≡ false → visit t b k ≡ record { seen = set (k .seen) b 1; queue = set (k .queue) (k .top) b; top = k .top + 1 }
     unfolding visit
     visit-push e = pick-no (complete t b) _ _ (is-not _ (lt-leb trueMark (mark t b) (omega arith))) ∙ pick-no (setOf (k .seen) b) _ _ (is-not _ e)
 
--- where a claim was not met, there is room on the stack
-pub push-room : (n : ℕ) (k : Work) (b : ℕ) → Fits n k → b < n → setOf (k .seen) b ≡ false → (k .top < length (k .stack)) × (k .top < n)
+-- where a claim was not met, there is room in the queue
+pub push-room : (n : ℕ) (k : Work) (b : ℕ) → Fits n k → b < n → setOf (k .seen) b ≡ false → (k .top < length (k .queue)) × (k .top < n)
 push-room n k b f l e =
     let inside : b < length (k .seen) = omega (arith, f .long) in
     let less = count-less (setOf (k .seen)) (setOf (set (k .seen) b 1)) (set-keeps (k .seen) b inside) n b l (set-there (k .seen) b inside) (is-not _ e) in
@@ -191,11 +191,11 @@ push-room n k b f l e =
 -- From cursor c₀ and worklist k₀ a loop came to c and k: what is still to be met makes of k what all that was to be met makes of k₀.
 pub record Expanding (s : List ℕ) (m : ℕ) (index t : List ℕ) (c₀ : Cursor) (k₀ : Work) (c : Cursor) (k : Work) : Type 0 where
   pub room : Room s m index t (length (k₀ .seen)) c k
-  pub deep : length (k .stack) ≡ length (k₀ .stack)
+  pub wide : length (k .queue) ≡ length (k₀ .queue)
   pub toCome : visits t (met s m index t c) k ≡ visits t (met s m index t c₀) k₀
 
 pub expanding-start : {s : List ℕ} {m : ℕ} {index t : List ℕ} {c₀ : Cursor} {k₀ : Work} → Room s m index t (length (k₀ .seen)) c₀ k₀ → Expanding s m index t c₀ k₀ c₀ k₀
-expanding-start r = record { room = r; deep = refl; toCome = refl }
+expanding-start r = record { room = r; wide = refl; toCome = refl }
 
 visits-none : (t : List ℕ) (k : Work) → visits t [] k ≡ k
 unfolding visits
@@ -234,7 +234,7 @@ module _ (s : List ℕ) (m : ℕ) (index t : List ℕ) (c₀ : Cursor) (k₀ : W
           words = x .room .words;
           fits = subst (λ (y : Work). Fits (length (k₀ .seen)) y) v (visit-fits t (length (k₀ .seen)) (claimOf (literalAt s m (c .at))) k low f);
         };
-        deep = sym (ap (λ (y : Work). length (y .stack)) v) ∙ (visit-deep t (length (k₀ .seen)) (claimOf (literalAt s m (c .at))) k low f ∙ x .deep);
+        wide = sym (ap (λ (y : Work). length (y .queue)) v) ∙ (visit-wide t (length (k₀ .seen)) (claimOf (literalAt s m (c .at))) k low f ∙ x .wide);
         toCome =
             sym (ap (visits t (met s m index t next)) v)
             ∙ (sym (ap (λ (bs : List ℕ). visits t bs k) (met-first s m index t c (x .room .ends) l) ∙ visits-first t (claimOf (literalAt s m (c .at))) (met s m index t next) k) ∙ x .toCome);

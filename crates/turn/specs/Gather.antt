@@ -1,11 +1,11 @@
--- The gathering of what a claim reaches, as a worklist on lists.
---   Work            seen: a byte a claim, not 0 where it was met; the first `top` entries of the stack are met and not yet looked at
---   visit t b k     claim b is met: pushed unless it is complete or was met before
+-- The gathering of what a claim reaches, by a queue, on lists.
+--   Work            seen: a byte a claim, not 0 where it was met; the first `top` entries of the queue are claims that were met
+--   visit t b k     claim b is met: it joins both unless it is complete or was met before
 --   visits t bs k   the claims bs are met, in order
 --   onward index t l c   the cursor c past its current literal l, or past l's rule where l is complete and false
 --   metFrom s m index t n c   the claims that a walk of at most n steps under cursor c meets, in a job s with m rules
 --   met s m index t c   the claims of the literals that cursor c has left, and that stand behind no false one
---   Fits n k        the set is one of n claims, and the stack has room for every claim that was not met
+--   Fits n k        the set is one of n claims, and the queue has room for every claim that was not met
 --   Room s m index t n c k   what meeting the claims of the literals under cursor c needs, of a job s with m rules and n claims and a table t
 use Prim.Native.Nat.{ℕ, zero, suc, _+_, _-_, _<_, _≤_}
 use mathlib.Core.Path.{_≡_}
@@ -25,14 +25,14 @@ use Rattle.turn.specs.Turn.{failed}
 
 pub record Work : Type 0 where
   pub seen : List ℕ
-  pub stack : List ℕ
+  pub queue : List ℕ
   pub top : ℕ
 
 unfoldable pub visit : List ℕ → ℕ → Work → Work
 unfolding pick
 visit t b k =
     pick (complete t b) k
-    (pick (setOf (k .seen) b) k (record { seen = set (k .seen) b 1; stack = set (k .stack) (k .top) b; top = k .top + 1 }))
+    (pick (setOf (k .seen) b) k (record { seen = set (k .seen) b 1; queue = set (k .queue) (k .top) b; top = k .top + 1 }))
 
 unfoldable pub visits : List ℕ → List ℕ → Work → Work
 visits t [] k = k
@@ -56,7 +56,7 @@ met s m index t c = metFrom s m index t (c .end - c .at) c
 pub record Fits (n : ℕ) (k : Work) : Type 0 where
   pub few : n ≤ mostClaims
   pub long : length (k .seen) ≡ n
-  pub wide : n ≤ length (k .stack)
+  pub wide : n ≤ length (k .queue)
   pub most : k .top ≤ count (setOf (k .seen)) n
 
 pub record Room (s : List ℕ) (m : ℕ) (index t : List ℕ) (n : ℕ) (c : Cursor) (k : Work) : Type 0 where

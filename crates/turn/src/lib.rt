@@ -1,5 +1,5 @@
 // One turn of a worker over the words of a shared table: the parts of a turn, and `take_turn`, the whole of it.
-// The contracts cite specs/: Turn (what a turn does), Ready (what the functions are lent), Gather (the worklist).
+// The contracts cite specs/: Turn (what a turn does), Ready (what the functions are lent), Gather (its queue of claims).
 ghost use mathlib.Core.Path.{_≡_};
 ghost use Prim.Native.Nat.{_<_};
 ghost use Rattle.job.specs.Format.{workers as workersOf, jobOf};

@@ -15,11 +15,11 @@ use Rattle.turn.proofs.gather.expand.Statement.{statement}
 use Rattle.turn.proofs.gather.expand.Tie as tie
 
 abbrev Inv-loop : tie.InvT-loop
-Inv-loop job index table rules seen₀ stack₀ bottom cursor₀ top₀ seen stack cursor top =
-    Expanding job rules index table cursor₀ (record { seen = seen₀; stack = stack₀; top = top₀ }) cursor (record { seen = seen; stack = stack; top = top })
+Inv-loop job index table rules seen₀ queue₀ bottom cursor₀ top₀ seen queue cursor top =
+    Expanding job rules index table cursor₀ (record { seen = seen₀; queue = queue₀; top = top₀ }) cursor (record { seen = seen; queue = queue; top = top })
 
 abbrev μ-loop : tie.MeasureT-loop
-μ-loop job index table rules seen₀ stack₀ bottom cursor₀ top₀ seen stack cursor top = cursor .end - cursor .at
+μ-loop job index table rules seen₀ queue₀ bottom cursor₀ top₀ seen queue cursor top = cursor .end - cursor .at
 
 -- a literal is left
 left : (c : tie.Then1 Inv-loop μ-loop) → c .before .before .loop .cursor .at < c .before .before .loop .cursor .end
@@ -82,7 +82,7 @@ same-length : tie.Need-same-length Inv-loop μ-loop
 same-length c = c .before .before .loop .inv .room .fits .long
 
 same-length-2 : tie.Need-same-length-2 Inv-loop μ-loop
-same-length-2 c = c .before .before .loop .inv .deep
+same-length-2 c = c .before .before .loop .inv .wide
 
 returns : tie.Need-returns Inv-loop μ-loop
 returns c = expanding-done _ _ _ _ _ _ _ _ (c .before .before .loop .inv) (leb-true _ _ (sym (c .before .at-end .ensures) ∙ not-false _ (c .if1 .left)))

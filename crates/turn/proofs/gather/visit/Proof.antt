@@ -11,7 +11,7 @@ use Rattle.turn.proofs.gather.visit.Statement.{statement}
 use Rattle.turn.proofs.gather.visit.Tie as tie
 
 -- a claim that is to be pushed has room
-room : (c : tie.Else2) → (c .before .before .before .before .before .before .before .before .before .args .top < length (c .before .before .before .before .before .before .before .before .before .args .stack .now)) × (c .before .before .before .before .before .before .before .before .before .args .top < mostClaims)
+room : (c : tie.Else2) → (c .before .before .before .before .before .before .before .before .before .args .top < length (c .before .before .before .before .before .before .before .before .before .args .queue .now)) × (c .before .before .before .before .before .before .before .before .before .args .top < mostClaims)
 room c =
     let c₁ = c .before .before .before .before .before .before .before .before .before in
     let start = c₁ in
@@ -41,14 +41,14 @@ returns-2 c =
 slice-write-seen : tie.Need-slice-write-seen
 slice-write-seen c = search needs
 
-cast-stack : tie.Need-cast-stack
-cast-stack c = search needs
+cast-queue : tie.Need-cast-queue
+cast-queue c = search needs
 
-mul-stack : tie.Need-mul-stack
-mul-stack c = omega (arith, room c)
+mul-queue : tie.Need-mul-queue
+mul-queue c = omega (arith, room c)
 
-slice-write-stack : tie.Need-slice-write-stack
-slice-write-stack c = room c .0
+slice-write-queue : tie.Need-slice-write-queue
+slice-write-queue c = room c .0
 
 add-result : tie.Need-add-result
 add-result c = omega (arith, room c)
@@ -75,9 +75,9 @@ visit-spec =
     same-length
     returns-2
     slice-write-seen
-    cast-stack
-    mul-stack
-    slice-write-stack
+    cast-queue
+    mul-queue
+    slice-write-queue
     add-result
     same-length-2
     same-length-3
