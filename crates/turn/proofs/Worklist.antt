@@ -43,6 +43,14 @@ module _ (w : List ℕ) (b : ℕ) where
   set-keeps l d h =
       by-cases (ℕ-discrete d b) (λ e. subst⁻¹ (λ (x : ℕ). T (setOf (set w b 1) x)) e (set-there l)) (λ n. subst⁻¹ T (set-other d n) h)
 
+-- where a claim was not met, there is room in the queue
+pub push-room : (n : ℕ) (k : Work) (b : ℕ) → Fits n k → b < n → (T (setOf (k .seen) b) → ⊥) → (k .top < length (k .queue)) × (k .top < n)
+push-room n k b f l out =
+    let inside : b < length (k .seen) = omega (arith, f .long) in
+    let less = count-less (setOf (k .seen)) (setOf (set (k .seen) b 1)) (set-keeps (k .seen) b inside) n b l (set-there (k .seen) b inside) out in
+    let most = count-le (setOf (set (k .seen) b 1)) n in
+    (omega (arith, f .most, f .wide), omega (arith, f .most))
+
 pub data Stands (k : Work) (d : ℕ) : Type 0 where
   at : (i : ℕ) → i < k .top → getD (k .queue) i 0 ≡ d → Stands k d
 
@@ -91,7 +99,7 @@ module _ (t : List ℕ) (n : ℕ) where
   pushed b k l f open′ out =
       let inside : b < length (k .seen) = omega (arith, f .long) in
       let less = count-less (setOf (k .seen)) (setOf (set (k .seen) b 1)) (set-keeps (k .seen) b inside) n b l (set-there (k .seen) b inside) out in
-      let wide : k .top < length (k .queue) = omega (arith, f .most, f .wide, count-le (setOf (set (k .seen) b 1)) n) in
+      let wide = push-room n k b f l out .0 in
       record {
         long = length-set (k .seen) b 1 ∙ f .long;
         wide = length-set (k .queue) (k .top) b;
@@ -179,14 +187,6 @@ module _ (t : List ℕ) (b : ℕ) (k : Work) (m : ℕ) (read : m ≡ mark t b) w
     pub visit-push : setOf (k .seen) b ≡ false → visit t b k ≡ record { seen = set (k .seen) b 1; queue = set (k .queue) (k .top) b; top = k .top + 1 }
     unfolding visit
     visit-push e = pick-no (complete t b) _ _ (is-not _ (lt-leb trueMark (mark t b) (omega arith))) ∙ pick-no (setOf (k .seen) b) _ _ (is-not _ e)
-
--- where a claim was not met, there is room in the queue
-pub push-room : (n : ℕ) (k : Work) (b : ℕ) → Fits n k → b < n → setOf (k .seen) b ≡ false → (k .top < length (k .queue)) × (k .top < n)
-push-room n k b f l e =
-    let inside : b < length (k .seen) = omega (arith, f .long) in
-    let less = count-less (setOf (k .seen)) (setOf (set (k .seen) b 1)) (set-keeps (k .seen) b inside) n b l (set-there (k .seen) b inside) (is-not _ e) in
-    let most = count-le (setOf (set (k .seen) b 1)) n in
-    (omega (arith, f .most, f .wide), omega (arith, f .most))
 
 -- From cursor c₀ and worklist k₀ a loop came to c and k: what is still to be met makes of k what all that was to be met makes of k₀.
 pub record Expanding (s : List ℕ) (m : ℕ) (index t : List ℕ) (c₀ : Cursor) (k₀ : Work) (c : Cursor) (k : Work) : Type 0 where

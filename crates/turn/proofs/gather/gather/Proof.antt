@@ -51,8 +51,8 @@ loop-holds : tie.Need-loop-holds Inv-loop μ-loop
 loop-holds c =
     let start = c .before .before .before .before .before .before .before .before .before in
     let w = c .before .before .clear in
-    let st = c .before .before .before .before .no-claims in
-    (length-set (st .result) 0 _ ∙ st .ensures, gathering-start _ _ _ (w .last .0) (st .result) (start .pre .0 .job) (w .ensures) (w .kept .0 ∙ start .pre .1 .0) (start .pre .1 .1) (st .ensures))
+    let q = c .before .before .before .before .no-claims in
+    (length-set (q .result) 0 _ ∙ q .ensures, gathering-start _ _ _ (w .last .0) (q .result) (start .pre .0 .job) (w .ensures) (w .kept .0 ∙ start .pre .1 .0) (start .pre .1 .1) (q .ensures))
 
 mul-half : tie.Need-mul-half Inv-loop μ-loop
 mul-half c = omega (arith, few c)

@@ -4,6 +4,7 @@ use mathlib.Core.Path.{sym, _∙_}
 use native.Mathlib.Omega.{arith}
 use borrow.Author.Needs.{needs}
 use lib.ListN.{length}
+use Rattle.base.proofs.Bools.{is-not}
 use Rattle.job.specs.Job.{mostClaims}
 use Rattle.turn.proofs.Tests.{complete-yes, complete-no}
 use Rattle.turn.proofs.Worklist.{visit-complete, visit-there, visit-push, push-room}
@@ -13,9 +14,8 @@ use Rattle.turn.proofs.gather.visit.Tie as tie
 -- a claim that is to be pushed has room
 room : (c : tie.Else2) → (c .before .before .before .before .before .before .before .before .before .args .top < length (c .before .before .before .before .before .before .before .before .before .args .queue .now)) × (c .before .before .before .before .before .before .before .before .before .args .top < mostClaims)
 room c =
-    let c₁ = c .before .before .before .before .before .before .before .before .before in
-    let start = c₁ in
-    let r = push-room _ _ (start .args .b) (start .pre .2) (start .pre .0) (sym (c .before .member .ensures) ∙ c .if2 .left) in
+    let start = c .before .before .before .before .before .before .before .before .before in
+    let r = push-room _ _ (start .args .b) (start .pre .2) (start .pre .0) (is-not _ (sym (c .before .member .ensures) ∙ c .if2 .left)) in
     (r .0, omega (arith, r .1, start .pre .2 .few))
 
 mark-at-requires : tie.Need-mark-at-requires
