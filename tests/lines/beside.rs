@@ -5,27 +5,17 @@ use oracle::lines::{held, job_of_text, text_of_job};
 use oracle::lines_sorts::{sort_of, Sort};
 use oracle::orders::Orders;
 
-use crate::lent::{Output, Text};
+use crate::codes::{code_of, said};
+use crate::lent::{Input, Output};
 use crate::library;
 use crate::totals::Totals;
 
 /// The longest output that is lent here.
 pub const MOST_OUTPUT: usize = 100_000;
 
-/// The code for an answer.
-pub fn code_of<T: AsRef<[u8]>>(answer: &Result<T, Refusal>) -> u64 {
-    match answer {
-        Ok(job) => job.as_ref().len() as u64,
-        Err(Refusal { number, place }) => (1 << 63) + (u64::from(*number) << 56) + *place as u64,
-    }
-}
-
-/// A code in words.
-fn said(code: u64) -> String {
-    match code >> 63 {
-        0 => format!("a job of {code} bytes"),
-        _ => format!("refused {} {}", code >> 56 & 0x7f, code & ((1 << 56) - 1)),
-    }
+/// A text with lines around it, so that a call that reads past it finds some more.
+pub fn lend_text(text: &[u8]) -> Input {
+    Input::between(b"claims 9 workers 9\n", text, b"\n8.\nask 8 8\n")
 }
 
 /// Output lengths worth a call.
@@ -41,7 +31,7 @@ fn interesting_lengths(job: &Result<Vec<u8>, Refusal>) -> Vec<usize> {
 
 /// One call into so many bytes; what differs from this answer.
 pub fn fault_of_call<T: AsRef<[u8]>>(
-    text: &Text,
+    text: &Input,
     output: &mut Output,
     length: usize,
     answer: &Result<T, Refusal>,
@@ -67,7 +57,7 @@ fn fault_of_way_back(job: &[u8], output: &mut Output) -> Option<String> {
     };
     match text_of_job(&read) {
         None => Some("the job has a missing record".to_string()),
-        Some(text) => fault_of_call(&Text::new(&text), output, job.len(), &Ok(job))
+        Some(text) => fault_of_call(&lend_text(&text), output, job.len(), &Ok(job))
             .map(|fault| format!("the lines of its job, {fault}")),
     }
 }
@@ -76,7 +66,7 @@ fn fault_of_way_back(job: &[u8], output: &mut Output) -> Option<String> {
 /// first fault.
 pub fn compare(totals: &mut Totals, output: &mut Output, name: &str, text: &[u8]) {
     totals.count_text(text);
-    let (job, lent) = (job_of_text(text), Text::new(text));
+    let (job, lent) = (job_of_text(text), lend_text(text));
     let sort = sort_of(text, &job);
     for length in interesting_lengths(&job) {
         let answer = job.as_deref().map_err(|&refusal| refusal).and_then(|job| held(job, length));

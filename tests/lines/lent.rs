@@ -6,24 +6,21 @@ use std::ops::Range;
 /// Bytes before and behind an output.
 const GUARD: usize = 64;
 
-/// Around a text stand lines, so that a call that reads past it finds some more.
-const BEFORE: &[u8] = b"claims 9 workers 9\n";
-const BEHIND: &[u8] = b"\n8.\nask 8 8\n";
-
-/// A text with lines around it.
-pub struct Text {
+/// Bytes lent for reading, with others around them.
+pub struct Input {
     bytes: Vec<u8>,
     kept: Vec<u8>,
+    lent: Range<usize>,
 }
 
-impl Text {
-    pub fn new(text: &[u8]) -> Text {
-        let bytes = [BEFORE, text, BEHIND].concat();
-        Text { kept: bytes.clone(), bytes }
+impl Input {
+    pub fn between(before: &[u8], input: &[u8], behind: &[u8]) -> Input {
+        let bytes = [before, input, behind].concat();
+        Input { kept: bytes.clone(), bytes, lent: before.len()..before.len() + input.len() }
     }
 
     pub fn bytes(&self) -> &[u8] {
-        &self.bytes[BEFORE.len()..self.bytes.len() - BEHIND.len()]
+        &self.bytes[self.lent.clone()]
     }
 
     pub fn altered(&self) -> bool {

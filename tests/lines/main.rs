@@ -6,6 +6,7 @@
 #[allow(dead_code)]
 mod arguments;
 mod beside;
+mod codes;
 #[path = "../compare/counts.rs"]
 #[allow(dead_code)]
 mod counts;
@@ -22,8 +23,8 @@ use std::process::exit;
 use std::time::Instant;
 
 use arguments::refuse;
-use beside::{compare, fault_of_call, MOST_OUTPUT};
-use lent::{Output, Text};
+use beside::{compare, fault_of_call, lend_text, MOST_OUTPUT};
+use lent::Output;
 use oracle::lines_edges::lines_edges;
 use oracle::lines_sorts::sort_of;
 use oracle::texts::generate_text;
@@ -53,7 +54,7 @@ fn compare_edges(totals: &mut Totals) {
         let (name, text) = (format!("edge {number}"), &edge.call.text);
         compare(totals, &mut output, &name, text);
         totals.count_call(sort_of(text, &edge.expected));
-        if let Some(fault) = fault_of_call(&Text::new(text), &mut output, edge.call.output, &edge.expected) {
+        if let Some(fault) = fault_of_call(&lend_text(text), &mut output, edge.call.output, &edge.expected) {
             totals.differ(&name, text, &format!("{}: {fault}", edge.name));
         }
     }

@@ -1,4 +1,4 @@
-//! The programs makejob and verdicts as processes.
+//! Programs as processes; makejob and verdicts.
 
 use std::io::Write;
 use std::process::{exit, Child, Command, Output, Stdio};
@@ -12,31 +12,31 @@ pub struct Programs {
 }
 
 /// The program that a variable names, or the built one.
-fn path_of(variable: &str, built: &str) -> String {
+pub fn path_of(variable: &str, built: &str) -> String {
     let path = std::env::var(variable).unwrap_or(built.to_string());
     if !std::path::Path::new(&path).exists() {
-        eprintln!("lines: there is no {path}");
+        eprintln!("there is no {path}");
         exit(2);
     }
     path
 }
 
-fn spawn(path: &str, input: impl Into<Stdio>, output: impl Into<Stdio>) -> Child {
+pub fn spawn(path: &str, input: impl Into<Stdio>, output: impl Into<Stdio>) -> Child {
     let mut timed = Command::new("timeout");
     timed.arg(SECONDS).arg(path).stdin(input).stdout(output).stderr(Stdio::piped());
     timed.spawn().unwrap_or_else(|error| {
-        eprintln!("lines: {path} can't be run: {error}");
+        eprintln!("{path} can't be run: {error}");
         exit(2);
     })
 }
 
-/// Writes a text to the first of two programs, or the only one, and gives what each
+/// Writes an input to the first of two programs, or the only one, and gives what each
 /// writes.
-fn outputs<const N: usize>(text: &[u8], mut programs: [Child; N]) -> [Output; N] {
+pub fn outputs<const N: usize>(bytes: &[u8], mut programs: [Child; N]) -> [Output; N] {
     let mut input = programs[0].stdin.take().expect("standard input is a pipe");
     std::thread::scope(|scope| {
         // It need not read on once it has seen too much: a broken pipe is no fault.
-        scope.spawn(move || drop(input.write_all(text)));
+        scope.spawn(move || drop(input.write_all(bytes)));
         programs.map(|program| program.wait_with_output().expect("a program ends"))
     })
 }

@@ -4,6 +4,12 @@
 //!
 //! tests/build makes it a library and the program `oracle` (commands.rs).
 
+pub mod canon;
+pub mod canon_check;
+pub mod canon_dress;
+pub mod canon_edges;
+pub mod canon_readings;
+pub mod canon_small;
 pub mod checks;
 pub mod clear;
 pub mod clear_check;
@@ -54,4 +60,5 @@ pub mod textbook;
 pub mod texts;
 pub mod turns;
 pub mod values;
+pub mod wide;
 pub mod worked;

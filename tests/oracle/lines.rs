@@ -182,7 +182,7 @@ pub fn job_of_lines(text: &[u8], output: usize) -> Result<Vec<u8>, Refusal> {
     Ok(job)
 }
 
-fn literal_text(literal: u16) -> String {
+pub fn literal_text(literal: u16) -> String {
     format!("{}{}", if literal & NEGATED != 0 { "not " } else { "" }, literal & !NEGATED)
 }
 

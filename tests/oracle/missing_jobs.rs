@@ -22,7 +22,7 @@ pub fn add_missing(draft: &mut Draft, seed: u64, orders: Orders) {
 
 /// Makes `head` missing by one more record, anywhere among its rules, which are
 /// sorted by head.
-fn insert_missing(draft: &mut Draft, random: &mut Random, head: usize) {
+pub fn insert_missing(draft: &mut Draft, random: &mut Random, head: usize) {
     let from = draft.rules.partition_point(|rule| usize::from(rule.0) < head);
     let to = draft.rules.partition_point(|rule| usize::from(rule.0) <= head);
     draft.rules.insert(random.within(from, to), (head as u16, Body::Missing));
@@ -31,7 +31,7 @@ fn insert_missing(draft: &mut Draft, random: &mut Random, head: usize) {
 /// Adds some missing records, and exchanges some rules for such, within the
 /// limits; one at least.
 fn add_missing_records(draft: &mut Draft, random: &mut Random) {
-    draft.rules.sort_by_key(|&(head, _)| head);
+    draft.sort_by_head();
     let room = MAX_RULES as usize - draft.rules.len();
     let share = random.pick(&[0, 2, 10, 40]);
     let added = random.within(1, 2 + draft.claims * share / 100);

@@ -1,6 +1,8 @@
 //! Checks of what the change orders say.  Of the turns: edge cases, all schedules
 //! of small jobs, shortcuts beside the text, and wrong readings that must be found.
 
+use crate::canon_check::{self, CanonTotals};
+use crate::canon_readings::CANON_READINGS;
 use crate::checks::{part_input, word_at, Job};
 use crate::clear_check::{self, readings_shown, ClearTotals};
 use crate::clear_sorts::sorts;
@@ -183,6 +185,27 @@ impl Checked {
         self.faults.extend(unmet.map(|(sort, _)| format!("never met: {sort}")));
     }
 
+    /// What order 7 says, in second ways, and wrong readings of it.
+    fn forms_in_other_ways(&mut self) {
+        let mut totals = CanonTotals::default();
+        self.faults.extend(canon_check::check_slice(worded(), &mut totals));
+        self.lines.push(format!(
+            "order 7 in second ways: {} edge cases, {} forms, {} shorter than the job; {} equal pairs, {} unequal ones, \
+             {} triples; {} small jobs of {} forms; readings shown {:?}",
+            totals.edges,
+            totals.forms,
+            totals.shortened,
+            totals.equal_pairs,
+            totals.unequal_pairs,
+            totals.triples,
+            totals.small,
+            totals.small_forms,
+            totals.shown
+        ));
+        let unshown = CANON_READINGS.iter().zip(totals.shown).filter(|(_, count)| *count == 0);
+        self.faults.extend(unshown.map(|((name, _), _)| format!("no job shows a wrong reading of order 7: {name}")));
+    }
+
     /// What order 9 says, in second ways, and wrong readings of it.
     fn clear_in_other_ways(&mut self) {
         let mut totals = ClearTotals::default();
@@ -239,6 +262,7 @@ pub fn check_orders() -> Checked {
     }
     checked.lines_in_other_ways();
     checked.missing_in_other_ways();
+    checked.forms_in_other_ways();
     checked.clear_in_other_ways();
     checked.faults_found();
     for kind in ["tiny", "small", "failing"] {

@@ -3,10 +3,12 @@
 --   keep p xs    the elements of xs for which p holds, in order
 --   every p xs   p holds of every element
 --   isIn d xs    d stands in xs
-use Prim.Native.Nat.{ℕ}
+--   Within xs n  every element is below n
+use Prim.Native.Nat.{ℕ, _<_}
 use mathlib.Core.Bool.{Bool, true, false, _&&_}
 use mathlib.Core.List.{List, [], _∷_}
 use lib.Dec.{eqb}
+use lib.ListN.{length, getD}
 use Rattle.base.specs.Choose.{pick}
 use Rattle.base.specs.Span.{span}
 
@@ -26,3 +28,6 @@ unfoldable pub isIn : ℕ → List ℕ → Bool
 unfolding pick
 isIn d [] = false
 isIn d (x ∷ xs) = pick (eqb d x) true (isIn d xs)
+
+pub record Within (xs : List ℕ) (n : ℕ) : Type 0 where
+  pub below : (k : ℕ) → k < length xs → getD xs k 0 < n

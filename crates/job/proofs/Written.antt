@@ -29,7 +29,7 @@ at-words s a (w ∷ ws) l h =
     (omega (arith, l .0, h .0), (omega (arith, div-eq-of-lt (l .0), l .0, h .0), rw e (at-words s (a + 4) ws (l .1) (h .1))))
 
 -- a field's literal gives it back
-field-literal : (x : ℕ) → fieldOf (literalOf x) ≡ x
+pub field-literal : (x : ℕ) → fieldOf (literalOf x) ≡ x
 field-literal x =
     by-cases (decLt x 32768) (λ h. ap fieldOf (sym (literal-plain refl h))) (λ h.
     let e : 32768 + (x - 32768) ≡ x = omega arith in

@@ -49,7 +49,7 @@ pub fn question_count(job: &[u8]) -> usize
 pub const NEGATED: usize = 32768;
 
 // The body length of a missing record, which has no literals.
-const MISSING: usize = 65535;
+pub const MISSING: usize = 65535;
 
 // Rule i: its head, whether it is a missing record, and how many literals its body has.
 pub fn head_at(job: &[u8], i: usize) -> usize

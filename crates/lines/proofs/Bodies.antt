@@ -17,7 +17,7 @@ use Rattle.lines.specs.Placing.{untilHead, BodyLength, bodyAt, recordAt}
 use Rattle.job.specs.Encoding.{halfBytes}
 use Rattle.writing.specs.Written.{Put}
 use Rattle.writing.proofs.Wrote.{put-put, put-as}
-use Rattle.lines.proofs.Fields.{flat-length}
+use Rattle.writing.proofs.Parted.{flat-length}
 
 module _ (ys : List ℕ) (k : ℕ) where
   pub until-more : k < length ys → getD ys k 0 < headMark → length (untilHead (drop k ys)) ≡ length (untilHead (drop (k + 1) ys)) + 1

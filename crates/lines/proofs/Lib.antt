@@ -18,7 +18,6 @@ pub mod Noted
 pub mod Judged
 pub mod Tails
 pub mod Unfitting
-pub mod Fields
 pub mod Bodies
 pub mod Chains
 pub mod Following

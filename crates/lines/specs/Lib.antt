@@ -8,4 +8,3 @@ pub mod Numbering
 pub mod Room
 pub mod Noting
 pub mod Placing
-pub mod Header

@@ -3,18 +3,20 @@ ghost use mathlib.Core.Path.{_≡_};
 ghost use mathlib.Core.List.{flatMap};
 ghost use Prim.Native.Nat.{_+_, _*_, _<_, _≤_};
 ghost use lib.ListN.{length, replicate};
+ghost use Rattle.base.specs.Lists.{Within};
 ghost use Rattle.writing.specs.Written.{Put};
 ghost use Rattle.job.specs.Encoding.{encode};
 ghost use Rattle.lines.specs.Lines.{Lines, textOf, jobFrom};
 ghost use Rattle.lines.specs.Room.{Readable};
 ghost use Rattle.job.specs.Job.{mostRules};
 ghost use Rattle.lines.specs.Noting.{mostNotes};
-ghost use Rattle.lines.specs.Placing.{BodyLength, Within, Placeable, placed, recordAt, bodyAt, jobBytes, Parted, partedBytes};
+ghost use Rattle.lines.specs.Placing.{BodyLength, Placeable, placed, recordAt, bodyAt, jobBytes, Parted, partedBytes};
 use crate::Tally;
 use crate::note;
 use crate::place;
 use crate::put;
 use base::wide;
+use fields::words;
 use job::checks;
 
 // How many literals the rule at place p has: notes up to the next head.
@@ -37,8 +39,8 @@ fn put_record(out: &mut [u8], at: usize, notes: &[u32], p: usize) -> usize
     requires { ⌜ (p < length (now notes)) × (at + 4 ≤ length (now out)) ⌝ }
     ensures { λ r. ⌜ Put (now (out .entry)) at (recordAt (now (notes .entry)) p) (now (out .exit)) r ⌝ }
 {
-    let a = put::put_half(out, at, wide::word(notes[p]) % 65536);
-    put::put_half(out, a, body_length(notes, p))
+    let a = words::put_half(out, at, wide::word(notes[p]) % 65536);
+    words::put_half(out, a, body_length(notes, p))
 }
 
 fn put_records(out: &mut [u8], at: usize, notes: &[u32], order: &[u16]) -> usize
@@ -86,7 +88,7 @@ fn put_placed(out: &mut [u8], t: Tally, rules: &[u32], order: &[u16], questions:
     requires { ⌜ now order ≡ placed (t .claims) (now rules) ⌝ }
     ensures { λ r. ⌜ Put (now (out .entry)) 0 (jobBytes t (now (rules .entry)) (now (questions .entry))) (now (out .exit)) r ⌝ }
 {
-    let a = put::put_header(out, t);
+    let a = words::put_header(out, t.claims, t.rules, t.literals, t.workers, t.questions);
     let b = put_records(out, a, rules, order);
     let c = put_bodies(out, b, rules, order);
     put::put_fields(out, c, questions)

@@ -1,9 +1,10 @@
 // Check 15 in words, behind the line's number: which count passes its limit, or which number is not below its count. These functions
-// only write words, so they have no contract (`said`).
+// only write words, so they have no contract (crate console).
 use crate::digits;
 use crate::line;
 use crate::said;
-use crate::said::say;
+use console::words::say;
+use console::words::say_number;
 use job::checks;
 
 fn say_most(count: &[u8]) {
@@ -24,7 +25,7 @@ fn say_not_below(thing: &[u8], number: &[u8], count: usize) {
     say(b" ");
     said::say_part(number);
     say(b" is not below ");
-    said::say_number(count);
+    say_number(count);
     say(b", the count of ");
     say(thing);
     say(b"s in line 1; ");

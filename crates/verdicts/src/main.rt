@@ -1,70 +1,43 @@
 // The listing program: reads a job with its schedule from standard input, writes the listing to standard output and, where the
 // input is refused, one line on standard error that says in words what is wrong and where. An input that can't be read is not listed.
-// `list` of crate listing has the contract of what is written; no contract can say that the system writes it, so the functions here
-// have none: they are safe, they end, and stored tests hold their words.
-mod input;
-
+// `list` of crate listing has the contract of what is written; the functions here only write, so they have none (crate console).
+use console::input;
+use console::output;
+use console::words;
+use console::words::say;
 use job::Check;
-use libc::STDERR_FILENO;
-use libc::STDOUT_FILENO;
 use listing::input::MOST_INPUT;
 use listing::input::TOO_LONG;
 use listing::list::MOST_TEXT;
 
-fn say(words: &[u8]) {
-    io::write_all(STDERR_FILENO, words);
-}
-
-// What is wrong with the length.
-fn say_length(length: usize) {
-    if MOST_INPUT < length {
+// What check `number` found wrong, up to the place. 16 can't come, since there is room.
+fn say_fault(number: u32, place: usize) {
+    if number == 11 {
+        say(b"the schedule names no worker of the job; its byte ");
+        return;
+    }
+    if MOST_INPUT < place {
         say(b"the input has over 65,536 bytes; bytes read: ");
         return;
     }
-    say(b"the job has under 36 or over 61,476 bytes; its length: ");
+    words::say_job_fault(number);
 }
 
-// What check `number` found wrong (docs/SPECIFICATION.md, 'Checks by place'), up to the place. 16 can't come, since there is room.
-fn say_fault(number: u32, place: usize) {
-    match number {
-        1 => say_length(place),
-        2 => say(b"the first word is not the length of the job, which was cut or padded; byte "),
-        3 => say(b"a count of the header is over its limit, or there are no workers; byte "),
-        4 => say(b"an offset of the header, or its total, is not the sum of the counts; byte "),
-        5 => say(
-            b"the head of a rule is no claim of the job, or is below the head before it; byte ",
-        ),
-        6 => say(
-            b"the bodies of the rules have more literals than the header says, or fewer; byte ",
-        ),
-        7 => say(b"a literal names no claim of the job; byte "),
-        8 => say(b"a question names no worker or no claim of the job; byte "),
-        _ => say(b"the schedule names no worker of the job; its byte "),
-    }
-}
-
-// One line on standard error.
 fn say_refusal(number: u32, place: usize) {
-    say(b"verdicts: refused by check ");
-    io::print_decimal(STDERR_FILENO, number as u64);
-    say(b": ");
+    words::say_check(b"verdicts", number);
     say_fault(number, place);
-    io::print_decimal(STDERR_FILENO, place as u64);
-    say(b"\n");
-}
-
-fn write_text(text: &[u8]) {
-    if io::write_all(STDOUT_FILENO, text) {
-        return;
-    }
-    say(b"verdicts: the listing can't be written to standard output; is the disk full?\n");
+    words::say_place(place);
 }
 
 fn list(input: &[u8], text: &mut [u8]) {
     let listed = listing::list::list(input, text);
     let length = listed.length;
     let check = listed.check;
-    write_text(&text[..length]);
+    output::write_or_say(
+        text,
+        length,
+        b"verdicts: the listing can't be written to standard output; is the disk full?\n",
+    );
     if let Check::Refused { number, place } = check {
         say_refusal(number, place);
     }

@@ -6,13 +6,15 @@
 --   put-as                         the text by another name
 --   copy-start, -more, -whole      a text copied from the front: nothing yet; one byte more; all
 --   from-back                      a text known by the bytes before it and those from it on
-use Prim.Native.Nat.{ℕ, suc, _+_, _≤_, _<_}
+--   put-part, put-front            a text that was written, as a part of the buffer
+--   rest-all                       a slice from a place on
+use Prim.Native.Nat.{ℕ, suc, _+_, _-_, _≤_, _<_}
 use mathlib.Core.Path.{_≡_, sym, _∙_, ap, ap₂}
 use mathlib.Core.List.{List, [], _∷_, _++_, append-assoc}
 use native.Mathlib.Numerals.{add-one}
 use native.Mathlib.Omega.{arith}
-use lib.ListN.{length, set, take, drop, getD, length-append, take-append-drop, List·getD-append}
-use lib.Seq.{set-split, append-snoc, length-paste, paste, paste-zero, paste-suc, take-length, take-at, drop-at, take-take, drop-drop, getD-append-add, length-take-le}
+use lib.ListN.{length, set, take, drop, getD, length-append, length-drop, take-append-drop, List·getD-append}
+use lib.Seq.{set-split, append-snoc, length-paste, paste, paste-zero, paste-suc, take-length, take-all, take-at, drop-at, take-take, drop-drop, getD-append-add, length-take-le}
 use Rattle.writing.specs.Written.{wrote, Put, Wrote}
 
 module _ (buf : List ℕ) (at : ℕ) where
@@ -121,3 +123,21 @@ from-back buf now at text p q =
     sym (take-append-drop at now)
     ∙ ap₂ _++_ p q
     ∙ sym (append-assoc (take at buf) text (drop (at + length text) buf))
+
+-- a text that was written, as a part of the buffer
+pub put-part : {buf : List ℕ} {at : ℕ} {text out : List ℕ} {r : ℕ} → Put buf at text out r → at ≤ length buf → take (r - at) (drop at out) ≡ text
+unfolding wrote
+put-part {buf} {at} {text} {out} {r} p h =
+    let rest : List ℕ = drop (at + length text) buf in
+    ap (λ (l : List ℕ). take (r - at) (drop at l)) (p .bytes ∙ append-assoc (take at buf) text rest)
+    ∙ ap (take (r - at)) (drop-at (take at buf) (text ++ rest) at (length-take-le at buf h))
+    ∙ take-at text rest (r - at) (omega (arith, p .next))
+
+pub put-front : {buf text out : List ℕ} {r : ℕ} → Put buf 0 text out r → take r out ≡ text
+unfolding wrote
+put-front {buf} {text} {out} {r} p =
+    ap (take r) (p .bytes) ∙ take-at text (drop (0 + length text) buf) r (omega (arith, p .next))
+
+-- a slice from a place on
+pub rest-all : (s : List ℕ) (k : ℕ) → take (length s - k) (drop k s) ≡ drop k s
+rest-all s k = take-all (length s - k) (drop k s) (omega (arith, length-drop k s))

@@ -5,7 +5,7 @@ use native.Mathlib.Omega.{arith}
 use borrow.Author.Needs.{needs}
 use lib.ListN.{length}
 use Rattle.job.specs.Encoding.{halfBytes}
-use Rattle.lines.proofs.Fields.{Parted, parted-start-by, parted-room, parted-size, parted-more, parted-end}
+use Rattle.writing.proofs.Parted.{Parted, parted-start-by, parted-room, parted-size, parted-more, parted-end}
 use Rattle.lines.proofs.put.put_fields.Statement.{statement}
 use Rattle.lines.proofs.put.put_fields.Tie as tie
 

@@ -3,8 +3,9 @@ use Prim.Native.Nat.{_-_, _<_}
 use mathlib.Core.Path.{_≡_, refl}
 use native.Mathlib.Omega.{arith}
 use lib.ListN.{length}
-use Rattle.lines.specs.Placing.{Within, bodyAt}
-use Rattle.lines.proofs.Fields.{Parted, parted-start, parted-room, parted-size, parted-more, parted-end}
+use Rattle.base.specs.Lists.{Within}
+use Rattle.lines.specs.Placing.{bodyAt}
+use Rattle.writing.proofs.Parted.{Parted, parted-start, parted-room, parted-size, parted-more, parted-end}
 use borrow.Author.Needs.{needs}
 use Rattle.lines.proofs.write.put_bodies.Statement.{statement}
 use Rattle.lines.proofs.write.put_bodies.Tie as tie

@@ -1,5 +1,6 @@
 -- `lines::write::put_parts` meets its contract. Assumes nothing.
-use Rattle.lines.proofs.Joined.{rest-all, front-length}
+use Rattle.writing.proofs.Wrote.{rest-all}
+use Rattle.lines.proofs.Joined.{front-length}
 use borrow.Author.Needs.{needs}
 use Rattle.lines.proofs.write.put_parts.Statement.{statement}
 use Rattle.lines.proofs.write.put_parts.Tie as tie

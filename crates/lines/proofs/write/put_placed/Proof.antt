@@ -1,11 +1,12 @@
 -- `lines::write::put_placed` meets its contract: the parts one after the other. Assumes nothing.
 use Rattle.lines.proofs.Joined.{order-within, header-room, records-room, bodies-room, asks-room, joined}
+use native.Mathlib.Omega.{arith}
 use borrow.Author.Needs.{needs}
 use Rattle.lines.proofs.write.put_placed.Statement.{statement}
 use Rattle.lines.proofs.write.put_placed.Tie as tie
 
 put-header-requires : tie.Need-put-header-requires
-put-header-requires c κs = let s = c .before .before .before .before .before .pre in (s .0 .small, header-room _ _ _ _ (s .1) (c .before .before .before .before .before .args .out .now) (s .0))
+put-header-requires c κs = let s = c .before .before .before .before .before .pre in (omega (arith, s .0 .small .rulesMost, s .0 .small .literalsMost, s .0 .small .questionsMost), header-room _ _ _ _ (s .1) (c .before .before .before .before .before .args .out .now) (s .0))
 
 put-records-requires : tie.Need-put-records-requires
 put-records-requires c κs = let s = c .before .before .before .before .before .before .before .before .before .pre in (order-within _ _ _ (s .1), records-room _ _ _ _ (s .1) _ (s .0) _ _ (c .before .before .before .put-header .ensures))

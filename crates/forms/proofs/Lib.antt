@@ -1,0 +1,12 @@
+pub mod Worked
+pub mod Firsts
+pub mod Keyed
+pub mod Lexic
+pub mod Sorting
+pub mod Orders
+pub mod Shorter
+pub mod Keys
+pub mod Verdicts
+pub mod FormValid
+pub mod OneWay
+pub mod Laws
