@@ -1,10 +1,9 @@
 // Check 15 in words, behind the line's number: which count passes its limit, or which number is not below its count. These functions
-// only write words, so they have no contract (crate console).
+// only write words, so they have no contract (`said`).
 use crate::digits;
 use crate::line;
 use crate::said;
-use console::words::say;
-use console::words::say_number;
+use crate::said::say;
 use job::checks;
 
 fn say_most(count: &[u8]) {
@@ -25,7 +24,7 @@ fn say_not_below(thing: &[u8], number: &[u8], count: usize) {
     say(b" ");
     said::say_part(number);
     say(b" is not below ");
-    say_number(count);
+    said::say_number(count);
     say(b", the count of ");
     say(thing);
     say(b"s in line 1; ");

@@ -1,6 +1,6 @@
 // Rules typed as lines: reads a text from standard input and writes its job to standard output. A text that is refused
 // gives no byte there, and one line on standard error: which line is at fault, why, and what would do. `make_job` (typed) has the
-// contract of what is written; functions that only write have none, here and in the modules below (crate console).
+// contract of what is written; no contract can say that the system writes it.
 mod digits;
 mod limits;
 mod line;
@@ -12,22 +12,28 @@ mod text;
 mod typed;
 
 use console::input;
-use console::output;
-use console::words::say;
-use console::words::say_number;
 use job::Check;
 use job::checks;
+use libc::STDOUT_FILENO;
+use said::say;
 
 // Check 14 or 15 in words. 16 can't come, since the buffer has room for the largest job.
 fn say_refusal(text: &[u8], number: u32, line: usize) {
     say(b"makejob: line ");
-    say_number(line);
+    said::say_number(line);
     if number == 14 {
         misfit::say_misfit(text, line);
     } else {
         limits::say_fault(text, line);
     }
     say(b"\n");
+}
+
+fn write_job(job: &[u8]) {
+    if io::write_all(STDOUT_FILENO, job) {
+        return;
+    }
+    say(b"makejob: the job can't be written to standard output; is the disk full?\n");
 }
 
 fn make(text: &[u8], out: &mut [u8]) {
@@ -41,11 +47,7 @@ fn make(text: &[u8], out: &mut [u8]) {
     let check = made.check;
     let length = made.length;
     match check {
-        Check::Accepted => output::write_or_say(
-            out,
-            length,
-            b"makejob: the job can't be written to standard output; is the disk full?\n",
-        ),
+        Check::Accepted => write_job(&out[..length]),
         Check::Refused { number, place } => say_refusal(text, number, place),
     }
 }

@@ -1,16 +1,15 @@
 // Check 14 in words, behind the line's number: what doesn't fit, the line, and what would. The contract cites specs/Faults; the
-// functions that only write words have none (crate console).
+// functions that only write words have none (`said`).
 ghost use mathlib.Core.Path.{_≡_};
 ghost use Prim.Native.Nat.{_≤_};
 ghost use lib.ListN.{length};
 ghost use Rattle.makejob.specs.Faults.{faultAt};
 use crate::line;
 use crate::said;
+use crate::said::say;
 use crate::shape;
 use crate::sort;
 use crate::sort::Sort;
-use console::words::say;
-use console::words::say_number;
 
 // Of a long line no more than so many bytes before the fault are shown.
 const BEFORE: usize = 40;
@@ -24,7 +23,7 @@ fn say_what(sort: Sort, column: usize) {
         Sort::LateRule => say(b" is a rule behind a question"),
         _ => {
             say(b" doesn't fit at column ");
-            say_number(column);
+            said::say_number(column);
         }
     }
 }

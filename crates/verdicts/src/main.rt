@@ -1,14 +1,19 @@
 // The listing program: reads a job with its schedule from standard input, writes the listing to standard output and, where the
 // input is refused, one line on standard error that says in words what is wrong and where. An input that can't be read is not listed.
-// `list` of crate listing has the contract of what is written; the functions here only write, so they have none (crate console).
+// `list` of crate listing has the contract of what is written; no contract can say that the system writes it, so the functions here
+// have none: they are safe, they end, and stored tests hold their words.
+use console::faults;
 use console::input;
-use console::output;
-use console::words;
-use console::words::say;
 use job::Check;
+use libc::STDERR_FILENO;
+use libc::STDOUT_FILENO;
 use listing::input::MOST_INPUT;
 use listing::input::TOO_LONG;
 use listing::list::MOST_TEXT;
+
+fn say(words: &[u8]) {
+    io::write_all(STDERR_FILENO, words);
+}
 
 // What check `number` found wrong, up to the place. 16 can't come, since there is room.
 fn say_fault(number: u32, place: usize) {
@@ -20,24 +25,33 @@ fn say_fault(number: u32, place: usize) {
         say(b"the input has over 65,536 bytes; bytes read: ");
         return;
     }
-    words::say_job_fault(number);
+    let mut words = [0u8; faults::MOST_FAULT];
+    let n = faults::put_fault(&mut words, number);
+    say(&words[..n]);
 }
 
+// One line on standard error.
 fn say_refusal(number: u32, place: usize) {
-    words::say_check(b"verdicts", number);
+    say(b"verdicts: refused by check ");
+    io::print_decimal(STDERR_FILENO, number as u64);
+    say(b": ");
     say_fault(number, place);
-    words::say_place(place);
+    io::print_decimal(STDERR_FILENO, place as u64);
+    say(b"\n");
+}
+
+fn write_text(text: &[u8]) {
+    if io::write_all(STDOUT_FILENO, text) {
+        return;
+    }
+    say(b"verdicts: the listing can't be written to standard output; is the disk full?\n");
 }
 
 fn list(input: &[u8], text: &mut [u8]) {
     let listed = listing::list::list(input, text);
     let length = listed.length;
     let check = listed.check;
-    output::write_or_say(
-        text,
-        length,
-        b"verdicts: the listing can't be written to standard output; is the disk full?\n",
-    );
+    write_text(&text[..length]);
     if let Check::Refused { number, place } = check {
         say_refusal(number, place);
     }
