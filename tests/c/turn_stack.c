@@ -13,25 +13,29 @@ uint64_t table_start(const uint8_t *job, size_t length, uint32_t *table, size_t 
 uint64_t table_turn(const uint8_t *job, size_t length, uint32_t *table, size_t words, size_t worker);
 
 enum { RING_RULES = CLAIMS + 1, JOB = BARE + 4 * RING_RULES + 2 * LITERALS + 4 };
-enum { LAST = CLAIMS - 1, LAST_LITERALS = LITERALS - LAST };
-enum { WORDS = 8 + 3 * CLAIMS + 3 * 1 + 1, LAST_PASSED = 8 + 3 * LAST + 1 };
+enum { FIRST_LITERALS = LITERALS - (CLAIMS - 1) };
+enum { WORDS = 8 + 3 * CLAIMS + 3 * 1 + 1, FIRST_PASSED = 8 + 1 };
 enum { IDLE = 0, PASSED = 5, COMPLETED = 6, KINDS = 8 };
 
 static uint8_t job[JOB];
 static uint32_t table[WORDS];
 static uint64_t kind;
 
-/* Each claim leads to the next in a ring, the last one to every claim three times besides. */
+/* Each claim leads to the next in a ring, the first one to every claim three times besides: the last, which is the
+   newest, has soon passed its literal, and then the first passes one after the other. */
 static void fill_ring(void)
 {
     const uint32_t counts[5] = {CLAIMS, RING_RULES, LITERALS, 1, 1};
     put_header(job, counts);
     uint8_t *at = job + BARE;
-    for (unsigned claim = 0; claim < CLAIMS; claim++)
+    at = put_half(put_half(at, 0), 1);
+    at = put_half(put_half(at, 0), FIRST_LITERALS - 1);
+    for (unsigned claim = 1; claim < CLAIMS; claim++)
         at = put_half(put_half(at, claim), 1);
-    at = put_half(put_half(at, LAST), LAST_LITERALS - 1);
-    for (unsigned k = 0; k < LITERALS; k++)
+    for (unsigned k = 0; k < FIRST_LITERALS; k++)
         at = put_half(at, (k + 1) % CLAIMS);
+    for (unsigned claim = 1; claim < CLAIMS; claim++)
+        at = put_half(at, (claim + 1) % CLAIMS);
     put_half(put_half(at, 0), 0);
 }
 
@@ -41,10 +45,10 @@ static void *turn(void *given)
     return given;
 }
 
-/* Turns until the last claim has passed so many literals, then one of this kind: whether it keeps to the limit. */
+/* Turns until the first claim has passed so many literals, then one of this kind: whether it keeps to the limit. */
 static int keeps_to(size_t limit, const char *name, uint64_t wanted, uint32_t passed)
 {
-    while (table[LAST_PASSED] < passed) {
+    while (table[FIRST_PASSED] < passed) {
         turn(NULL);
         if (kind == IDLE || kind >= KINDS)
             return 0;
@@ -59,5 +63,5 @@ int main(void)
     fill_ring();
     if (table_start(job, JOB, table, WORDS) != 0)
         return 2;
-    return !(keeps_to(36000, "gathers", PASSED, 1) && keeps_to(200000, "completes", COMPLETED, LAST_LITERALS));
+    return !(keeps_to(36000, "gathers", PASSED, 2) && keeps_to(240000, "completes", COMPLETED, FIRST_LITERALS));
 }

@@ -2,25 +2,18 @@
 
 use std::process::{exit, Output};
 
-use oracle::checks::read_input;
 use oracle::listing::listing;
 use oracle::orders::Orders;
 
-use crate::cost::steps;
 use crate::program::Program;
-use crate::totals::{tally_of, Totals};
+use crate::totals::Totals;
 
 /// Where the input of a difference is kept.
 const FOLDER: &str = "target/tests";
 
-/// Lists an input and compares.  `name` is its kind and seed.  Where its turns
-/// would take more than `work` steps it is left out.
-pub fn compare(totals: &mut Totals, program: &Program, name: &str, input: &[u8], work: u64) {
+/// Lists an input and compares.  `name` is its kind and seed.
+pub fn compare(totals: &mut Totals, program: &Program, name: &str, input: &[u8]) {
     let expected = listing(input, Orders::in_force(), false);
-    if work < u64::MAX && takes(input, &expected) > work {
-        totals.left_out += 1;
-        return;
-    }
     totals.count(input, &expected);
     let answer = program.list(input).unwrap_or_else(|error| {
         eprintln!("listing: {} can't be run: {error}", program.path);
@@ -30,14 +23,6 @@ pub fn compare(totals: &mut Totals, program: &Program, name: &str, input: &[u8],
         let path = format!("{FOLDER}/listing-{}.field", name.replace(' ', "-"));
         let kept = std::fs::write(&path, input).map_or_else(|error| error.to_string(), |()| "kept".to_string());
         totals.differ(name, &format!("{fault} ({path}: {kept})"));
-    }
-}
-
-/// How many steps an input takes, by its listing.
-fn takes(input: &[u8], listing: &str) -> u64 {
-    match (read_input(input, Orders::in_force()), tally_of(listing)) {
-        (Ok((job, _)), Some(tally)) => steps(&job, &tally),
-        _ => 0,
     }
 }
 

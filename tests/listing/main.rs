@@ -5,7 +5,6 @@
 #[path = "../compare/arguments.rs"]
 mod arguments;
 mod beside;
-mod cost;
 #[path = "../compare/counts.rs"]
 mod counts;
 mod inputs;
@@ -24,11 +23,10 @@ use program::Program;
 use totals::Totals;
 
 const USAGE: &str = "\
-listing                                  all that the gate runs
-listing made KINDS FROM COUNT [whole]    made inputs of these kinds (commas between, or `all`),
-                                         COUNT seeds each, the first of them FROM; with
-                                         `whole` none is left out as too long
-listing edges [whole]                    the edge cases; with `whole` however long they take
+listing                          all that the gate runs
+listing made KINDS FROM COUNT    made inputs of these kinds (commas between, or `all`),
+                                 COUNT seeds each, the first of them FROM
+listing edges                    the edge cases
 
 Kinds: those of `oracle kinds`; `long`, lengths around 65,536; `cut`, inputs cut short;
 `turns`, schedules with workers that aren't; `bytes`, random bytes; `fields`, random
@@ -38,7 +36,7 @@ target/bin/verdicts.
 
 /// Kinds and how many inputs of each the gate lists.
 const GATE: [(&str, u64); 19] = [
-    ("large", 6),
+    ("large", 40),
     ("tiny", 1200),
     ("small", 1200),
     ("damaged", 1200),
@@ -58,21 +56,6 @@ const GATE: [(&str, u64); 19] = [
     ("bytes", 200),
     ("fields", 500),
 ];
-
-/// How much is done before the program is given up.
-#[derive(Clone, Copy)]
-struct Limits {
-    /// An input is left out when its turns take about so many steps.
-    steps: u64,
-    /// A listing may take so many seconds.
-    seconds: &'static str,
-}
-
-/// Inputs of a few seconds at most.
-const GATE_LIMITS: Limits = Limits { steps: 4_000_000_000, seconds: "120" };
-/// No edge case is left out, not even the chain of 4,096 claims.
-const EDGE_LIMITS: Limits = Limits { steps: u64::MAX, seconds: "120" };
-const NO_LIMITS: Limits = Limits { steps: u64::MAX, seconds: "0" };
 
 /// With so many differences no more inputs are listed.
 const MOST_DIFFERENCES: usize = 10;
@@ -111,11 +94,10 @@ fn part(all: &mut Totals, title: &str, from: u64, count: u64, list: impl Fn(&mut
     let start = Instant::now();
     let totals = in_threads(from, count, list);
     println!(
-        "{title}: {} inputs, {} accepted, {} with missing records, {} left out, {} turns, {} differences, {:.1} s",
+        "{title}: {} inputs, {} accepted, {} with missing records, {} turns, {} differences, {:.1} s",
         totals.inputs,
         totals.accepted,
         totals.missing_jobs,
-        totals.left_out,
         totals.turns(),
         totals.differences,
         start.elapsed().as_secs_f64()
@@ -124,28 +106,28 @@ fn part(all: &mut Totals, title: &str, from: u64, count: u64, list: impl Fn(&mut
     totals
 }
 
-fn list_edges(all: &mut Totals, limits: Limits) {
-    let (edges, program) = (edge_cases(Orders::in_force()), Program::find(limits.seconds));
+fn list_edges(all: &mut Totals) {
+    let (edges, program) = (edge_cases(Orders::in_force()), Program::find());
     part(all, "edges", 0, edges.len() as u64, |totals, number| {
-        beside::compare(totals, &program, &format!("edge {number}"), &edges[number as usize].bytes, limits.steps);
+        beside::compare(totals, &program, &format!("edge {number}"), &edges[number as usize].bytes);
     });
 }
 
-fn list_made(all: &mut Totals, kind: &str, from: u64, count: u64, limits: Limits) -> Totals {
-    let program = Program::find(limits.seconds);
+fn list_made(all: &mut Totals, kind: &str, from: u64, count: u64) -> Totals {
+    let program = Program::find();
     part(all, kind, from, count, |totals, seed| {
         let Some(input) = inputs::made(kind, seed) else {
             eprintln!("listing: no kind is called {kind}");
             exit(2);
         };
-        beside::compare(totals, &program, &format!("{kind} {seed}"), &input, limits.steps);
+        beside::compare(totals, &program, &format!("{kind} {seed}"), &input);
     })
 }
 
 fn list_gate(all: &mut Totals) {
-    list_edges(all, EDGE_LIMITS);
+    list_edges(all);
     for (kind, count) in GATE {
-        let made = list_made(all, kind, 0, count, GATE_LIMITS);
+        let made = list_made(all, kind, 0, count);
         if let Some(fault) = missing_unmet(kind, made.accepted, made.missing_jobs) {
             all.differ("the gate", &fault);
         }
@@ -155,27 +137,17 @@ fn list_gate(all: &mut Totals) {
     }
 }
 
-/// The limits by the last word of the command; without one they are the gate's.
-fn limits_of(words: &[&str], gate: Limits) -> Limits {
-    match words {
-        [] => gate,
-        ["whole"] => NO_LIMITS,
-        _ => refuse(USAGE),
-    }
-}
-
 fn main() {
     let arguments: Vec<String> = std::env::args().skip(1).collect();
     let words: Vec<&str> = arguments.iter().map(String::as_str).collect();
     let mut all = Totals::default();
     match words.as_slice() {
         [] => list_gate(&mut all),
-        ["edges", rest @ ..] => list_edges(&mut all, limits_of(rest, EDGE_LIMITS)),
-        ["made", kinds, from, count, rest @ ..] => {
+        ["edges"] => list_edges(&mut all),
+        ["made", kinds, from, count] => {
             let (Ok(from), Ok(count)) = (from.parse(), count.parse()) else { refuse(USAGE) };
-            let limits = limits_of(rest, GATE_LIMITS);
             for kind in kinds_named(kinds, &GATE) {
-                list_made(&mut all, &kind, from, count, limits);
+                list_made(&mut all, &kind, from, count);
             }
         }
         _ => refuse(USAGE),

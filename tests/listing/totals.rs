@@ -16,9 +16,8 @@ const NUMBERS: [&str; 9] = ["1", "2", "3", "4", "5", "6", "7", "8", "11"];
 
 #[derive(Default)]
 pub struct Totals {
-    /// Inputs that the program was run on, and those whose turns take too long.
+    /// Inputs that the program was run on.
     pub inputs: usize,
-    pub left_out: usize,
     pub accepted: usize,
     refused: [usize; 9],
     /// Turns of all listings by their kind.
@@ -35,7 +34,7 @@ pub struct Totals {
 }
 
 /// The tally of a listing's last line; none where it is a refusal.
-pub fn tally_of(listing: &str) -> Option<[u64; 8]> {
+fn tally_of(listing: &str) -> Option<[u64; 8]> {
     let line = listing.lines().last()?.strip_prefix("tally ")?;
     let counts: Result<Vec<u64>, _> = line.split(' ').map(str::parse).collect();
     counts.ok()?.try_into().ok()
@@ -76,7 +75,6 @@ impl Totals {
 
     pub fn add(&mut self, other: &Totals) {
         self.inputs += other.inputs;
-        self.left_out += other.left_out;
         self.accepted += other.accepted;
         self.differences += other.differences;
         add(&mut self.refused, &other.refused);
@@ -117,12 +115,11 @@ impl Totals {
             println!("a made input alone: listing made KIND SEED 1");
         }
         println!(
-            "{} inputs listed ({} accepted with {} turns, {} refused; {} left out as too long), {} differences",
+            "{} inputs listed ({} accepted with {} turns, {} refused), {} differences",
             self.inputs,
             self.accepted,
             self.turns(),
             self.refused.iter().sum::<usize>(),
-            self.left_out,
             self.differences
         );
     }

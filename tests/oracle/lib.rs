@@ -4,6 +4,7 @@
 //!
 //! tests/build makes it a library and the program `oracle` (commands.rs).
 
+pub mod between_tables;
 pub mod canon;
 pub mod canon_check;
 pub mod canon_dress;
@@ -16,6 +17,7 @@ pub mod clear_check;
 pub mod clear_readings;
 pub mod clear_sorts;
 pub mod damage;
+pub mod dense_tables;
 pub mod draft;
 pub mod edges;
 pub mod explore;

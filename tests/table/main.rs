@@ -9,8 +9,10 @@ mod calls;
 #[path = "../compare/counts.rs"]
 mod counts;
 mod failed;
+mod kept;
 mod lengths;
 mod lent;
+mod lent_runs;
 mod library;
 mod lists;
 #[path = "../compare/mapped.rs"]
@@ -41,16 +43,17 @@ table orders                           edge cases of the change orders
 table lengths                          lengths of 4 GiB and more
 
 Kinds: those of `oracle kinds`, each a list of calls from a start; `table`, tables
-that no run made; `known`, such tables of large jobs, many claims complete; `words`,
-tables with words out of range.
+that no run made; `dense`, runs on such tables of small dense jobs; `known`, such tables
+of large jobs, many claims complete; `words`, tables with words out of range.
 ";
 
 /// Kinds and how many jobs of each the gate compares.
-const GATE: [(&str, u64); 17] = [
+const GATE: [(&str, u64); 18] = [
     ("tiny", 1500),
     ("small", 1500),
     ("failing", 3000),
     ("table", 8000),
+    ("dense", 60_000),
     ("known", 10),
     ("words", 120),
     ("damaged", 1000),
@@ -82,6 +85,7 @@ fn compare_made(totals: &mut Totals, kind: &str, from: u64, count: u64, work: us
         };
         match kind {
             "table" => single::compare_table(totals, &name, &input),
+            "dense" => lent_runs::compare_run(totals, &name, &input),
             "known" => single::compare_known(totals, &name, &input),
             _ => lists::compare_input(totals, &name, &input, work),
         }
@@ -117,6 +121,9 @@ fn compare_gate(all: &mut Totals) {
     part(all, "edge cases of orders", single::compare_order_edges);
     for (kind, count) in GATE {
         let made = part(all, kind, |totals| compare_made(totals, kind, 0, count, GATE_WORK));
+        if kind == "dense" {
+            lent_runs::expect_enough(all, &made);
+        }
         if let Some(fault) = missing_unmet(kind, made.jobs, made.missing_jobs) {
             all.differ("the gate", &fault);
         }

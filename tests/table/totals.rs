@@ -9,6 +9,7 @@ use oracle::turns::KINDS;
 use crate::calls::{Call, Given};
 use crate::counts::{add, listed, unmet};
 use crate::failed::{SORTS, SORTS_OF_LISTS};
+use crate::kept;
 use crate::met::Met;
 use crate::newest;
 
@@ -43,6 +44,9 @@ pub struct Totals {
     /// What turns met in lists from a start and on tables that no run made.
     pub in_lists: Met,
     pub on_tables: Met,
+    /// Runs on tables that no run made, by kinds of their turns, and what those keep.
+    pub runs_with: [usize; 8],
+    pub kept: kept::Counts,
     pub differences: usize,
 }
 
@@ -126,6 +130,13 @@ impl Totals {
         add(&mut self.before_newest, &other.before_newest);
         self.in_lists.add(&other.in_lists);
         self.on_tables.add(&other.on_tables);
+        add(&mut self.runs_with, &other.runs_with);
+        add(&mut self.kept, &other.kept);
+    }
+
+    /// Counts the kinds that a run's turns had.
+    pub fn count_run(&mut self, expected: &Given) {
+        add(&mut self.runs_with, &expected.tally.map(|turns| usize::from(turns > 0)));
     }
 
     /// What the orders in force bring and was never met.
@@ -195,6 +206,8 @@ impl Totals {
             listed(&missing_sorts::SORTS, &self.on_tables.missing.sorts),
             self.on_tables.missing.exchanged
         );
+        println!("runs on tables that no run made with turns: {}", listed(&KINDS, &self.runs_with));
+        println!("what they keep: {}", listed(&kept::SORTS, &self.kept));
         if self.differences > 0 {
             println!("a made job alone: table made KIND SEED 1");
         }

@@ -1,5 +1,4 @@
 -- The claims that questions name or lead to, by rules (Asked) and by places (Led). Assumes nothing.
---   member      a list's member at a place
 --   led-asked   from places to rules;    on-claims   the clause `claims` of Promise
 use mathlib.Core.Path.{_≡_, refl, sym, _∙_, ap, subst}
 use mathlib.Core.List.{List, [], _∷_, List·Memᴰ·head, List·Memᴰ·tail, Memᴰ·of-map}
@@ -22,17 +21,12 @@ use Rattle.waiting.specs.Led as L
 use Rattle.turn.specs.Turn.{lits, runTable}
 use Rattle.calls.specs.Lists.{Call, turnsOf, Complete}
 use Rattle.calls.specs.Promise.{Fresh, from, Asked}
+use Rattle.turn.proofs.AtPlaces.{member}
 use Rattle.turn.proofs.Places.{place-low}
 use Rattle.steps.proofs.OnTurns.{LitAt, led-job, only-led}
 use Rattle.calls.proofs.Histories.{turns-low, after-turns}
 use Rattle.calls.proofs.Answers.{complete-mark}
 use Rattle.calls.proofs.OnLists.{valid, ok, started, made-after}
-
--- members of a list, by their places
-pub member : {A : Type 0} (l : List A) (d : A) (i : ℕ) → i < length l → getD l i d ∈ l
-member [] d i h = absurd (omega arith)
-member (x ∷ l) d zero h = List·Memᴰ·head refl
-member (x ∷ l) d (suc i) h = List·Memᴰ·tail (member l d i (omega arith))
 
 -- the question at a place of the file
 record Found (qs : List Question) (c : ℕ) : Type 0 where

@@ -21,7 +21,8 @@ use Rattle.job.specs.declared.Literal.the-variants.{Plain}
 use Rattle.job.proofs.RuleEnds.{Holding, rule-holding}
 use Rattle.table.specs.Layout as W
 use Rattle.table.proofs.Keeping.{with-mark}
-use Rattle.turn.specs.Turn.{Turned, litAt, failed, skipEnd, reached, completedMark, baseTurn, turn}
+use Rattle.turn.specs.Turn.{Turned, litAt, skipEnd, reached, completedMark, baseTurn, turn}
+use Rattle.table.specs.Literals.{failed}
 use Rattle.calls.specs.Lists.{Call}
 use Rattle.calls.specs.Promise.{Fresh, from, FalseAmong, OpenedFor, question, literal}
 use Rattle.turn.proofs.Jobs.{JobOk, lits-length, valid-ok}

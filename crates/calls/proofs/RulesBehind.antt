@@ -21,18 +21,20 @@ use Rattle.job.specs.declared.Literal.the-variants.{Plain, Negated}
 use Rattle.job.proofs.RuleEnds.{RuleAt, rule-at}
 use Rattle.semantics.specs.Model.{Verdict, True, False, Undefined, opposite, programOf, literalVerdict, byteOf}
 use Rattle.table.specs.Layout as W
-use Rattle.turn.specs.Turn.{lits, litAt, failed}
+use Rattle.turn.specs.Turn.{lits, litAt}
+use Rattle.table.specs.Literals.{failed}
 use Rattle.calls.specs.Lists.{Call, Complete}
 use Rattle.calls.specs.Promise.{Fresh, from, FalseAmong, OthersBehind}
+use Rattle.table.proofs.Failing.{failed-done}
+use Rattle.turn.proofs.AtPlaces.{member}
 use Rattle.turn.proofs.Tests.{is-eq}
 use Rattle.turn.proofs.Jobs.{JobOk, lits-length, valid-ok}
-use Rattle.turn.proofs.Behind.{Behind, claim-lit, failed-done}
+use Rattle.turn.proofs.Behind.{Behind, claim-lit}
 use Rattle.steps.proofs.Verdicts.{verdictIn}
 use Rattle.steps.proofs.Runs.{Made}
 use Rattle.steps.proofs.OnTurns.{else-behind}
 use Rattle.calls.proofs.Answers.{complete-mark, mark-complete}
 use Rattle.calls.proofs.OnLists.{valid, made-after}
-use Rattle.calls.proofs.Named.{member}
 
 true-false : True ≡ False → ⊥
 true-false e = let z : _≡_ {A = ℕ} 0 1 = cc in absurd (omega arith)

@@ -25,6 +25,7 @@ use job::format;
 use table::questions;
 use table::words;
 use turn::Kind;
+use turn::single;
 
 // What a turn answers.
 pub enum TurnAnswer {
@@ -84,7 +85,7 @@ fn turn_accepted(
                 };
             }
             let asked = questions::index_questions(job, counts);
-            TurnAnswer::Made(turn::take_turn(job, index, &asked, table, worker))
+            TurnAnswer::Made(single::take_single(job, index, &asked, table, worker))
         }
     }
 }

@@ -1,10 +1,10 @@
 // The schedule of a run: its check, and its turns, one after the other. The contracts cite `runTable` and `runKinds` of the turn's specs, and
 // `checkSchedule` and `tally` of specs/Calls.
 ghost use mathlib.Core.Path.{_≡_};
-ghost use Prim.Native.Nat.{ℕ, _<_};
+ghost use Prim.Native.Nat.{ℕ, _≤_, _<_};
 ghost use lib.ListN.{length, getD};
 ghost use Rattle.job.specs.Accepted.{WellFormed};
-ghost use Rattle.job.specs.Format.{workers as workersOf, jobOf};
+ghost use Rattle.job.specs.Format.{claims, workers as workersOf, jobOf};
 ghost use Rattle.table.specs.Questions.{Listed};
 ghost use Rattle.turn.specs.Turn.{runTable, runKinds};
 ghost use Rattle.calls.specs.Calls.{checkSchedule, tally as tallyOf};
@@ -15,6 +15,92 @@ use job::Check;
 use job::ClaimIndex;
 use job::format;
 use table::QuestionIndex;
+use turn::Kept;
+use turn::single;
+
+// The turns that the schedule names, and their tally, with room for what is kept from turn to turn.
+fn run_in(
+    job: &[u8],
+    index: &ClaimIndex,
+    asked: &QuestionIndex,
+    table: &mut [u32],
+    schedule: &[u8],
+    place: &mut [u16],
+    members: &mut [u16],
+) -> [u64; 8]
+    requires { ⌜ Ready (now job) (now index) (now table) × Listed (jobOf (now job)) (now asked) ⌝ }
+    requires { ⌜ ((i : ℕ) → i < length (now schedule) → getD (now schedule) i 0 < workersOf (now job)) ⌝ }
+    requires { ⌜ (length (now place) ≡ claims (now job)) × (claims (now job) ≤ length (now members)) × ((c : ℕ) → getD (now place) c 0 ≡ 0) ⌝ }
+    ensures { λ r. ⌜ r ≡ tallyOf (runKinds (jobOf (now (job .entry))) (now (table .entry)) (now (schedule .entry))) ⌝ }
+    ensures { λ r. ⌜ now (table .exit) ≡ runTable (jobOf (now (job .entry))) (now (table .entry)) (now (schedule .entry)) ⌝ }
+{
+    let mut counts = tally::no_turns();
+    let mut kept = Kept::nothing();
+    for i in 0..schedule.len() {
+        let w = wide::byte(schedule[i]);
+        let taken = turn::take_turn(job, index, asked, table, w, kept, place, members);
+        let kind = taken.kind;
+        let next = tally::counted(counts, kind);
+        counts = next;
+        kept = taken.kept;
+    }
+    counts
+}
+
+// The turns of a run on a small job.
+fn run_few(
+    job: &[u8],
+    index: &ClaimIndex,
+    asked: &QuestionIndex,
+    table: &mut [u32],
+    schedule: &[u8],
+) -> [u64; 8]
+    requires { ⌜ Ready (now job) (now index) (now table) × Listed (jobOf (now job)) (now asked) ⌝ }
+    requires { ⌜ ((i : ℕ) → i < length (now schedule) → getD (now schedule) i 0 < workersOf (now job)) ⌝ }
+    requires { ⌜ claims (now job) ≤ 64 ⌝ }
+    ensures { λ r. ⌜ r ≡ tallyOf (runKinds (jobOf (now (job .entry))) (now (table .entry)) (now (schedule .entry))) ⌝ }
+    ensures { λ r. ⌜ now (table .exit) ≡ runTable (jobOf (now (job .entry))) (now (table .entry)) (now (schedule .entry)) ⌝ }
+{
+    let claims = format::claim_count(job);
+    let mut place = single::few_numbers();
+    let mut members = single::few_numbers();
+    run_in(
+        job,
+        index,
+        asked,
+        table,
+        schedule,
+        &mut place[..claims],
+        &mut members[..],
+    )
+}
+
+// The turns of a run on any.
+fn run_any(
+    job: &[u8],
+    index: &ClaimIndex,
+    asked: &QuestionIndex,
+    table: &mut [u32],
+    schedule: &[u8],
+) -> [u64; 8]
+    requires { ⌜ Ready (now job) (now index) (now table) × Listed (jobOf (now job)) (now asked) ⌝ }
+    requires { ⌜ ((i : ℕ) → i < length (now schedule) → getD (now schedule) i 0 < workersOf (now job)) ⌝ }
+    ensures { λ r. ⌜ r ≡ tallyOf (runKinds (jobOf (now (job .entry))) (now (table .entry)) (now (schedule .entry))) ⌝ }
+    ensures { λ r. ⌜ now (table .exit) ≡ runTable (jobOf (now (job .entry))) (now (table .entry)) (now (schedule .entry)) ⌝ }
+{
+    let claims = format::claim_count(job);
+    let mut place = single::no_numbers();
+    let mut members = single::no_numbers();
+    run_in(
+        job,
+        index,
+        asked,
+        table,
+        schedule,
+        &mut place[..claims],
+        &mut members[..],
+    )
+}
 
 // The turns that the schedule names, and their tally.
 pub fn run_turns(
@@ -30,13 +116,10 @@ pub fn run_turns(
     ensures { λ r. ⌜ r ≡ tallyOf (runKinds (jobOf (now (job .entry))) (now (table .entry)) (now (schedule .entry))) ⌝ }
     ensures { λ r. ⌜ now (table .exit) ≡ runTable (jobOf (now (job .entry))) (now (table .entry)) (now (schedule .entry)) ⌝ }
 {
-    let mut counts = tally::no_turns();
-    for i in 0..schedule.len() {
-        let kind = turn::take_turn(job, index, asked, table, wide::byte(schedule[i]));
-        let next = tally::counted(counts, kind);
-        counts = next;
+    if format::claim_count(job) <= single::FEW_CLAIMS {
+        return run_few(job, index, asked, table, schedule);
     }
-    counts
+    run_any(job, index, asked, table, schedule)
 }
 
 // Row 11 of a run: every worker that the schedule names is one of the job's.

@@ -17,23 +17,23 @@ use Rattle.base.specs.Sets.{Claims, setOf}
 use Rattle.base.proofs.Bools.{is, is-false}
 use Rattle.base.proofs.ByteSets.{set-gone, set-same}
 use Rattle.job.specs.Accepted.{WellFormed}
-use Rattle.job.specs.Format.{claims, rules, literals, headAt}
-use Rattle.counters.specs.Positions.{keyAt}
+use Rattle.job.specs.Format.{claims, rules, literals}
+use Rattle.counters.specs.Positions.{keyAt, failBase}
 use Rattle.counters.specs.Queues.{seen, pending}
 use Rattle.counters.specs.Counters.{lacking}
-use Rattle.counters.specs.Doubts.{Stand, Left, Falling}
+use Rattle.counters.specs.Doubts.{Left, Falling}
 use Rattle.counters.proofs.Owning.{Owned}
 use Rattle.counters.proofs.Counting.{counts-same, counts-owe, counts-most}
 use Rattle.counters.proofs.Positions.{lacking-plain, lacking-same, lacking-gone}
 use Rattle.counters.proofs.Queues.{seen-at, seen-other, queue-room, queue-push, pending-skip, pending-here, pending-gone, pending-other, pending-this}
 use Rattle.counters.proofs.Leaving.{stays-no, by-left}
 
-module _ {s : List ℕ} {b : Stand} {K : Claims} {own cnt u q : List ℕ} {i x t : ℕ} (now : Falling s b K own cnt u q i x t) where
+module _ {s : List ℕ} {K : Claims} {own cnt u q : List ℕ} {i x t : ℕ} (now : Falling s K own cnt u q i x t) where
   due : ℕ → Bool
   due p = lacking s K (setOf u) p && not (pending s q t i x p)
 
   pub falling-most : WellFormed s → (r : ℕ) → r < rules s → getD cnt r 0 < 65535
-  falling-most good r l = omega (arith, counts-most (now .counts) r l, now .few r l, good .sized .literalsMost)
+  falling-most good r l = omega (arith, counts-most (now .counts) r l, good .sized .literalsMost)
 
   -- claim c is in the set
   module _ (c : ℕ) (l : c < claims s) (old : setOf u c ≡ true) where
@@ -43,7 +43,7 @@ module _ {s : List ℕ} {b : Stand} {K : Claims} {own cnt u q : List ℕ} {i x t
     pub falling-room : t < length q
     falling-room = omega (arith, queue-room (now .queue) (2 * c) (omega arith) falling-unseen, now .queue .long)
 
-    module _ (inside : i < t) (free : T (b .given c) → ⊥) where
+    module _ (inside : i < t) where
       u′ : List ℕ
       u′ = set u c 0
 
@@ -62,7 +62,7 @@ module _ {s : List ℕ} {b : Stand} {K : Claims} {own cnt u q : List ℕ} {i x t
           ap₂ (λ (y z : Bool). y && not z) (sym (lacking-same s K (setOf u) p (setOf u′) c (λ d k. set-same u c 0 d k) n))
           (sym (pending-other s q t (2 * c) i x (omega arith) falling-room p n)))
 
-      falling-leave : Falling s b K own cnt (set u c 0) (set q t (2 * c)) i x (t + 1)
+      falling-leave : Falling s K own cnt (set u c 0) (set q t (2 * c)) i x (t + 1)
       unfolding due u′ q′
       falling-leave =
           let room : c < length u = omega (arith, now .size) in
@@ -74,26 +74,16 @@ module _ {s : List ℕ} {b : Stand} {K : Claims} {own cnt u q : List ℕ} {i x t
                 by-cases (ℕ-discrete d c) (λ e. set-gone u c room (subst (λ (y : ℕ). T (setOf (set u c 0) y)) e w))
                 (λ n. now .plain d (subst T (seen-other q t (2 * c) falling-room (2 * d) (λ e. n (omega arith))) v) (subst T (set-same u c 0 d n) w));
             negated = λ d v. now .negated d (subst T (seen-other q t (2 * c) falling-room (2 * d + 1) (λ e. omega arith)) v);
-            few = now .few;
-            given = λ d v.
-                by-cases (ℕ-discrete d c) (λ e. absurd (free (subst (λ (y : ℕ). T (b .given y)) e v))) (λ n. subst⁻¹ T (set-same u c 0 d n) (now .given d v));
-            apart = now .apart;
           }
 
 pub falling-left :
-    {s : List ℕ} {b : Stand} {k own cnt u q : List ℕ} {i x t : ℕ} → Falling s b (setOf k) own cnt u q i x t → (c : ℕ) → c < claims s → i < t
-    → (T (b .given c) → ⊥) → {u′ q′ : List ℕ} {t′ : ℕ} → Left k c u q t u′ q′ t′ → Falling s b (setOf k) own cnt u′ q′ i x t′
-falling-left {s} {b} {k} {own} {cnt} {u} {q} {i} {x} {t} now c l inside free j =
-    by-left j (λ y z n. Falling s b (setOf k) own cnt y z i x n) (λ e. now) (λ e. falling-leave now c l (stays-no k u c e .0) inside free)
-
--- the head of a rule that counts nothing is in U by rules alone
-pub falling-free :
-    {s : List ℕ} {b : Stand} {K : Claims} {own cnt u q : List ℕ} {i x t : ℕ} → Falling s b K own cnt u q i x t → (r : ℕ) → r < rules s
-    → getD cnt r 0 ≡ 0 → T (b .given (headAt s r)) → ⊥
-falling-free now r l z g = omega (arith, now .counts .counted r l, now .apart r l g)
+    {s k own cnt u q : List ℕ} {i x t : ℕ} → Falling s (setOf k) own cnt u q i x t → (c : ℕ) → c < claims s → i < t
+    → {u′ q′ : List ℕ} {t′ : ℕ} → Left k c u q t u′ q′ t′ → Falling s (setOf k) own cnt u′ q′ i x t′
+falling-left {s} {k} {own} {cnt} {u} {q} {i} {x} {t} now c l inside j =
+    by-left j (λ y z n. Falling s (setOf k) own cnt y z i x n) (λ e. now) (λ e. falling-leave now c l (stays-no k u c e .0) inside)
 
 -- a position fails
-module _ (s : List ℕ) (b : Stand) (K : Claims) (own cnt u q : List ℕ) (i p t : ℕ) (owned : Owned s own) (now : Falling s b K own cnt u q i (p + 1) t) (inside : i < t) (l : p < literals s) (here : keyAt s p ≡ getD q i 0) where
+module _ (s : List ℕ) (K : Claims) (own cnt u q : List ℕ) (i p t : ℕ) (owned : Owned s own) (now : Falling s K own cnt u q i (p + 1) t) (inside : i < t) (l : p < literals s) (here : keyAt s p ≡ getD q i 0) where
   before : ℕ → Bool
   before j = lacking s K (setOf u) j && not (pending s q t i (p + 1) j)
 
@@ -117,24 +107,21 @@ module _ (s : List ℕ) (b : Stand) (K : Claims) (own cnt u q : List ℕ) (i p t
   rest j m n =
       ap (λ (b : Bool). lacking s K (setOf u) j && not b) (sym (pending-skip s q t i p (p + 1) (omega arith) j (λ x y. absurd (n (omega arith)))))
 
-  pub falling-owe : Falling s b K own (set cnt (getD own p 0) (getD cnt (getD own p 0) 0 + 1)) u q i p t
+  pub falling-owe : Falling s K own (set cnt (getD own p 0) (getD cnt (getD own p 0) 0 + 1)) u q i p t
   unfolding before after
   falling-owe =
       record {
-        counts = counts-owe s own cnt (b .base) after before p l owned fails was rest (now .counts);
+        counts = counts-owe s own cnt failBase after before p l owned fails was rest (now .counts);
         queue = now .queue;
         size = now .size;
         plain = now .plain;
         negated = now .negated;
-        few = now .few;
-        given = now .given;
-        apart = now .apart;
       }
 
 pub falling-due :
-    (s : List ℕ) (b : Stand) (K : Claims) (own cnt u q : List ℕ) (i x t j y : ℕ) → ((p : ℕ) → p < literals s → pending s q t i x p ≡ pending s q t j y p)
-    → Falling s b K own cnt u q i x t → Falling s b K own cnt u q j y t
-falling-due s b K own cnt u q i x t j y f now =
+    (s : List ℕ) (K : Claims) (own cnt u q : List ℕ) (i x t j y : ℕ) → ((p : ℕ) → p < literals s → pending s q t i x p ≡ pending s q t j y p)
+    → Falling s K own cnt u q i x t → Falling s K own cnt u q j y t
+falling-due s K own cnt u q i x t j y f now =
     record {
       counts =
           counts-same (λ p. lacking s K (setOf u) p && not (pending s q t i x p)) (λ p. lacking s K (setOf u) p && not (pending s q t j y p))
@@ -143,7 +130,4 @@ falling-due s b K own cnt u q i x t j y f now =
       size = now .size;
       plain = now .plain;
       negated = now .negated;
-      few = now .few;
-      given = now .given;
-      apart = now .apart;
     }

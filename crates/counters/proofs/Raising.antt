@@ -26,7 +26,7 @@ use Rattle.counters.proofs.Queues.{pending-skip, pending-next}
 use Rattle.counters.proofs.Joining.{fits-room, joined-grown, joined-there, joined-old, joined-up, grown-refl, grown-trans}
 use Rattle.counters.proofs.Growing.{growing-fires, growing-joined, growing-some, growing-pay, growing-due}
 
-pub carried-on : {I : Type 0} {X Y Z : I → Type 0} → Carried I X Y → ((a : I) → Y a → Z a) → Carried I X Z
+carried-on : {X Y Z : Aim → Type 0} → Carried X Y → ((a : Aim) → Y a → Z a) → Carried X Z
 carried-on now f = record { some = (now .some .0, f (now .some .0) (now .some .1)); each = λ a x. f a (now .each a x) }
 
 module _ (s own cnt₀ w₀ q₀ : List ℕ) (i₀ t₀ : ℕ) where

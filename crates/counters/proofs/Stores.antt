@@ -1,15 +1,13 @@
--- What the stores of one step leave (specs/Queues: Joined; specs/Counters: Paid, givenTo). Assumes nothing.
+-- What the stores of one step leave (specs/Queues: Joined; specs/Counters: Paid). Assumes nothing.
 use Prim.Native.Nat.{ℕ, _+_, _*_, _-_}
 use mathlib.Core.Path.{_≡_, refl, sym, _∙_, ap, subst}
 use mathlib.Core.Bool.{Bool, true, false, cond, true≢false}
 use mathlib.Core.List.{List}
-use borrow.Author.Tests.{eq-eqb, ne-eqb}
-use lib.Dec.{ltb}
 use lib.ListN.{getD, set}
 use Rattle.base.proofs.ByteSets.{set-yes, set-no}
 use Rattle.job.specs.Format.{headAt}
 use Rattle.counters.specs.Queues.{Joined, JoinedIf}
-use Rattle.counters.specs.Counters.{Paid, givenTo}
+use Rattle.counters.specs.Counters.{Paid}
 
 module _ (w q : List ℕ) (t c : ℕ) where
   pub joined-in : (getD w c 0 ≡ 0 → ⊥) → Joined c w q t w q t
@@ -40,20 +38,6 @@ module _ (s cnt w q : List ℕ) (r t : ℕ) where
       → Paid s cnt w q r t (set cnt r (getD cnt r 0 - 1)) w′ q′ t′
   paid-joins h w′ q′ t′ e f j =
       record { lowered = refl; waits = λ d. absurd (d e); joins = λ z. subst (λ (x : ℕ). Joined x w q t w′ q′ t′) f j }
-
--- a known verdict's byte
-module _ (x : ℕ) (b : Bool) where
-  pub given-true : x ≡ 1 → true ≡ givenTo b x
-  unfolding givenTo
-  given-true e = rw (eq-eqb x 1 e)
-
-  pub given-possible : (x ≡ 1 → ⊥) → b ≡ true → ltb 2 x ≡ givenTo b x
-  unfolding givenTo
-  given-possible n e = rw (ne-eqb x 1 n, e)
-
-  pub given-not : (x ≡ 1 → ⊥) → b ≡ false → false ≡ givenTo b x
-  unfolding givenTo
-  given-not n e = rw (ne-eqb x 1 n, e)
 
 -- a claim that joins if a test says so
 module _ (b : Bool) (c : ℕ) (w q : List ℕ) (t : ℕ) where

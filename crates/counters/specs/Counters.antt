@@ -6,19 +6,16 @@
 --   Ready s cnt w n      of the rules below n, each that counts nothing has its head in w
 --   Growing s a own cnt w q i x t   the counters of a D that grows in w: each position whose literal does not hold, or is pending, is due
 --   Paid s cnt w q r t ..   counters, w and the queue after a position of rule r was done: the rule counts one less, and at 0 its head joins
---   Carried I X Y        of the aims I: one has Y, and each that had X has Y
+--   Carried X Y          one aim has Y, and each that had X has Y
 --   Raised               w grew from w₀, by the counters: from place i₀ of the queue on to place i, where the positions from x on are done
 --   Idle s cnt c         claim c has a rule that counts nothing
---   givenTo b x          a claim whose known verdict has this byte is in the set from the start: true, and for U (b) undefined
---   Given g b c          claim c is such a one
 --   Begun                what a D has before any key is taken
 use Prim.Native.Nat.{ℕ, _+_, _*_, _-_, _<_}
 use mathlib.Core.Path.{_≡_}
-use mathlib.Core.Bool.{Bool, true, not, _&&_, _||_}
+use mathlib.Core.Bool.{Bool, not, _||_}
 use mathlib.Core.List.{List}
-use mathlib.Core.Logic.{_⊎_}
-use lib.Dec.{T, ltb, eqb}
-use lib.ListN.{length, getD, set}
+use lib.Dec.{T}
+use lib.ListN.{getD, set}
 use Rattle.base.specs.Sets.{Claims, _⊆_, setOf}
 use Rattle.job.specs.Format.{claims, rules, literals, headAt, literalAt}
 use Rattle.semantics.specs.Model.{holds}
@@ -53,12 +50,12 @@ pub record Paid (s cnt w q : List ℕ) (r t : ℕ) (cnt′ w′ q′ : List ℕ)
   pub waits : (getD cnt r 0 ≡ 1 → ⊥) → (w′ ≡ w) × (q′ ≡ q) × (t′ ≡ t)
   pub joins : getD cnt r 0 ≡ 1 → Joined (headAt s r) w q t w′ q′ t′
 
-pub record Carried (I : Type 0) (X Y : I → Type 0) : Type 0 where
-  pub some : (a : I) × Y a
-  pub each : (a : I) → X a → Y a
+pub record Carried (X Y : Aim → Type 0) : Type 0 where
+  pub some : (a : Aim) × Y a
+  pub each : (a : Aim) → X a → Y a
 
 pub record Raised (s own cnt₀ w₀ q₀ : List ℕ) (i₀ t₀ : ℕ) (cnt w q : List ℕ) (i x t : ℕ) : Type 0 where
-  pub carried : Carried Aim (λ a. Growing s a own cnt₀ w₀ q₀ i₀ (literals s) t₀) (λ a. Growing s a own cnt w q i x t)
+  pub carried : Carried (λ a. Growing s a own cnt₀ w₀ q₀ i₀ (literals s) t₀) (λ a. Growing s a own cnt w q i x t)
   pub ready : Ready s cnt w (rules s)
   pub grown : Grown w₀ q₀ t₀ w q t
 
@@ -68,14 +65,6 @@ pub record Idle (s cnt : List ℕ) (c : ℕ) : Type 0 where
   pub none : getD cnt by 0 ≡ 0
   pub head : headAt s by ≡ c
 
-unfoldable pub givenTo : Bool → ℕ → Bool
-givenTo b x = eqb x 1 || (b && ltb 2 x)
-
-pub record Given (g : List ℕ) (b : Bool) (c : ℕ) : Type 0 where
-  pub below : c < length g
-  pub given : givenTo b (getD g c 0) ≡ true
-
-pub record Begun (s g : List ℕ) (b : Bool) (cnt w q w′ q′ : List ℕ) (t : ℕ) : Type 0 where
-  pub joins : Joins (λ c. Given g b c ⊎ Idle s cnt c) w q 0 w′ q′ t
-  pub givens : (c : ℕ) → Given g b c → T (setOf w′ c)
+pub record Begun (s cnt w q w′ q′ : List ℕ) (t : ℕ) : Type 0 where
+  pub joins : Joins (Idle s cnt) w q 0 w′ q′ t
   pub ready : Ready s cnt w′ (rules s)

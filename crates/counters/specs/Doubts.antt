@@ -3,10 +3,10 @@
 --   stays k u c          claim c is not doubted: it is outside u, or in k
 --   Left k c u q t ..    u, the list and its length after claim c left u for the list, unless it stays
 --   Owed s k cnt u q r t ..   counters, u and the list after a position of rule r failed: the rule counts one more, and from 0 on its head leaves
---   Falling s b K own cnt u q i x t   the counters of a U that shrinks against K: each position whose literal fails, and is not pending, is due
+--   Falling s K own cnt u q i x t   the counters of a U that shrinks against K: each position whose literal fails, and is not pending, is due
 --   Fallen               u and the list were u₀ and q₀ before: each claim that left u is on the list, and nothing else was added
 --   Kept s K cnt₀ cnt u  each rule that counted nothing, and whose head is still in u and not in K, counts nothing now
---   Sunk                 u fell from u₀, by the counters: from place i₀ of the list on to place i, where the positions from x on have failed
+--   Sunk                 u fell from u₀, by the counters: up to place i of the list, where the positions from x on have failed
 --   Negations, Doubted, Lost, Recovered   what the steps between leave
 use Prim.Native.Nat.{ℕ, _+_, _*_, _<_, _≤_}
 use mathlib.Core.Path.{_≡_}
@@ -14,11 +14,11 @@ use mathlib.Core.Bool.{Bool, false, not, cond, _&&_, _||_}
 use mathlib.Core.List.{List}
 use lib.Dec.{T}
 use lib.ListN.{length, getD, set}
-use Rattle.base.specs.Sets.{Claims, _⊆_, setOf}
-use Rattle.job.specs.Format.{claims, rules, literals, headAt}
-use Rattle.counters.specs.Positions.{keys, Counts}
+use Rattle.base.specs.Sets.{Claims, setOf}
+use Rattle.job.specs.Format.{claims, rules, headAt}
+use Rattle.counters.specs.Positions.{keys, failBase, Counts}
 use Rattle.counters.specs.Queues.{seen, Queue, pending, Joins}
-use Rattle.counters.specs.Counters.{lacking, Carried, Idle}
+use Rattle.counters.specs.Counters.{lacking, Idle}
 
 unfoldable pub stays : List ℕ → List ℕ → ℕ → Bool
 stays k u c = not (setOf u c) || setOf k c
@@ -33,20 +33,12 @@ pub record Owed (s k cnt u q : List ℕ) (r t : ℕ) (cnt′ u′ q′ : List �
   pub stands : (getD cnt r 0 ≡ 0 → ⊥) → (u′ ≡ u) × (q′ ≡ q) × (t′ ≡ t)
   pub leaves : getD cnt r 0 ≡ 0 → Left k (headAt s r) u q t u′ q′ t′
 
--- what U stands on: what each rule counts for ever, and claims that are in U by no rule
-pub record Stand : Type 0 where
-  pub base : ℕ → ℕ
-  pub given : Claims
-
-pub record Falling (s : List ℕ) (b : Stand) (K : Claims) (own cnt u q : List ℕ) (i x t : ℕ) : Type 0 where
-  pub counts : Counts s own cnt (b .base) (λ p. lacking s K (setOf u) p && not (pending s q t i x p))
+pub record Falling (s : List ℕ) (K : Claims) (own cnt u q : List ℕ) (i x t : ℕ) : Type 0 where
+  pub counts : Counts s own cnt failBase (λ p. lacking s K (setOf u) p && not (pending s q t i x p))
   pub queue : Queue (keys s) q t
   pub size : length u ≡ claims s
   pub plain : (c : ℕ) → T (seen q t (2 * c)) → T (setOf u c) → ⊥
   pub negated : (c : ℕ) → T (seen q t (2 * c + 1)) → T (K c)
-  pub few : (r : ℕ) → r < rules s → b .base r ≤ 1
-  pub given : b .given ⊆ setOf u
-  pub apart : (r : ℕ) → r < rules s → T (b .given (headAt s r)) → 1 ≤ b .base r
 
 pub record Fallen (u₀ q₀ : List ℕ) (t₀ : ℕ) (u q : List ℕ) (t : ℕ) : Type 0 where
   pub up : t₀ ≤ t
@@ -59,8 +51,8 @@ pub record Kept (s : List ℕ) (K : Claims) (cnt₀ cnt u : List ℕ) : Type 0 w
   pub kept :
       (r : ℕ) → r < rules s → getD cnt₀ r 0 ≡ 0 → T (setOf u (headAt s r)) → (T (K (headAt s r)) → ⊥) → getD cnt r 0 ≡ 0
 
-pub record Sunk (s k own cnt₀ u₀ q₀ : List ℕ) (i₀ t₀ : ℕ) (cnt u q : List ℕ) (i x t : ℕ) : Type 0 where
-  pub carried : Carried Stand (λ b. Falling s b (setOf k) own cnt₀ u₀ q₀ i₀ (literals s) t₀) (λ b. Falling s b (setOf k) own cnt u q i x t)
+pub record Sunk (s k own cnt₀ u₀ q₀ : List ℕ) (t₀ : ℕ) (cnt u q : List ℕ) (i x t : ℕ) : Type 0 where
+  pub falling : Falling s (setOf k) own cnt u q i x t
   pub fallen : Fallen u₀ q₀ t₀ u q t
   pub kept : Kept s (setOf k) cnt₀ cnt u
 

@@ -3,17 +3,15 @@
 // The contracts cite specs/Queues and specs/Counters.
 ghost use mathlib.Core.Path.{_≡_};
 ghost use mathlib.Core.Bool.{false};
-ghost use Prim.Native.Nat.{ℕ, _+_, _*_, _<_, _≤_};
-ghost use lib.Dec.{T, eqb};
+ghost use Prim.Native.Nat.{_+_, _*_, _<_, _≤_};
+ghost use lib.Dec.{eqb};
 ghost use lib.ListN.{length, getD};
 ghost use Rattle.base.specs.Sets.{setOf};
 ghost use Rattle.job.specs.Accepted.{WellFormed};
 ghost use Rattle.job.specs.Format.{claims, rules, literals, headAt};
 ghost use Rattle.counters.specs.Positions.{owners, Placed};
-ghost use Rattle.counters.specs.Queues.{Joined, JoinedIf, Joins, Fits};
-ghost use Rattle.counters.specs.Counters.{Aim, Growing, Ready, Paid, Raised, Idle, givenTo, Given, Begun};
-use crate::FALSE;
-use crate::TRUE;
+ghost use Rattle.counters.specs.Queues.{Joined, JoinedIf};
+ghost use Rattle.counters.specs.Counters.{Aim, Growing, Ready, Paid, Raised, Begun};
 use base::wide;
 use job::format;
 
@@ -106,53 +104,6 @@ pub fn rise(
     top
 }
 
-// Whether a claim with this known verdict is in the set from the start: one known as true, and where the set is of all possible claims, as U is,
-// one known as undefined.
-fn given(x: u8, possible: bool) -> bool
-    ensures { λ r. ⌜ r ≡ givenTo possible x ⌝ }
-{
-    if x == TRUE {
-        return true;
-    }
-    if possible {
-        return FALSE < x;
-    }
-    false
-}
-
-// Claim c joins if it is such a one. How many keys the queue then has.
-fn give(
-    known: &[u8],
-    possible: bool,
-    w: &mut [u8],
-    queue: &mut [u16],
-    top: usize,
-    c: usize,
-) -> usize
-    requires { ⌜ (c < length (now known)) × (c < length (now w)) × (c < 32768) ⌝ }
-    requires { ⌜ (setOf (now w) c ≡ false → top < length (now queue)) ⌝ }
-    ensures { λ r. ⌜ JoinedIf (givenTo possible (getD (now (known .entry)) c 0)) c (now (w .entry)) (now (queue .entry)) top (now (w .exit)) (now (queue .exit)) r ⌝ }
-{
-    if given(known[c], possible) {
-        return join(w, queue, top, c);
-    }
-    top
-}
-
-// All such claims join. How many keys the queue then has.
-fn givens(known: &[u8], possible: bool, w: &mut [u8], queue: &mut [u16]) -> usize
-    requires { ⌜ (length (now known) ≤ length (now w)) × (length (now w) ≤ 32768) × (2 * length (now w) ≤ length (now queue)) ⌝ }
-    ensures { λ r. ⌜ (Joins (Given (now (known .entry)) possible) (now (w .entry)) (now (queue .entry)) 0 (now (w .exit)) (now (queue .exit)) r) × ((c : ℕ) → Given (now (known .entry)) possible c → T (setOf (now (w .exit)) c)) ⌝ }
-{
-    let mut top = 0;
-    let mut c = 0;
-    while c < known.len() {
-        top = give(known, possible, w, queue, top, c);
-        c += 1;
-    }
-    top
-}
-
 // The head of rule r joins if the rule counts nothing. How many keys the queue then has.
 fn fact(job: &[u8], count: &[u16], w: &mut [u8], queue: &mut [u16], top: usize, r: usize) -> usize
     requires { ⌜ WellFormed (now job) ⌝ }
@@ -167,36 +118,18 @@ fn fact(job: &[u8], count: &[u16], w: &mut [u8], queue: &mut [u16], top: usize, 
     join(w, queue, top, head)
 }
 
-// Heads of all rules that count nothing join. How many keys the queue then has.
-fn facts(job: &[u8], count: &[u16], w: &mut [u8], queue: &mut [u16], bottom: usize) -> usize
+// The start of a D: the heads of all rules that count nothing join. How many keys the queue then has.
+pub fn begin(job: &[u8], count: &[u16], w: &mut [u8], queue: &mut [u16]) -> usize
     requires { ⌜ WellFormed (now job) ⌝ }
-    requires { ⌜ (rules (now job) ≤ length (now count)) × (Fits (claims (now job)) (now w) (now queue) bottom) ⌝ }
-    ensures { λ r. ⌜ (Joins (Idle (now (job .entry)) (now (count .entry))) (now (w .entry)) (now (queue .entry)) bottom (now (w .exit)) (now (queue .exit)) r) × (Ready (now (job .entry)) (now (count .entry)) (now (w .exit)) (rules (now (job .entry)))) ⌝ }
+    requires { ⌜ (length (now w) ≡ claims (now job)) × (2 * claims (now job) ≤ length (now queue)) × (rules (now job) ≤ length (now count)) ⌝ }
+    ensures { λ r. ⌜ Begun (now (job .entry)) (now (count .entry)) (now (w .entry)) (now (queue .entry)) (now (w .exit)) (now (queue .exit)) r ⌝ }
 {
     let rules = format::rule_count(job);
-    let mut top = bottom;
+    let mut top = 0;
     let mut r = 0;
     while r < rules {
         top = fact(job, count, w, queue, top, r);
         r += 1;
     }
     top
-}
-
-// The start of a D: the claims join that hold before any key is taken. How many keys the queue then has.
-pub fn begin(
-    job: &[u8],
-    known: &[u8],
-    possible: bool,
-    count: &[u16],
-    w: &mut [u8],
-    queue: &mut [u16],
-) -> usize
-    requires { ⌜ WellFormed (now job) ⌝ }
-    requires { ⌜ (length (now known) ≤ claims (now job)) × (length (now w) ≡ claims (now job)) × (2 * claims (now job) ≤ length (now queue)) ⌝ }
-    requires { ⌜ rules (now job) ≤ length (now count) ⌝ }
-    ensures { λ r. ⌜ Begun (now (job .entry)) (now (known .entry)) possible (now (count .entry)) (now (w .entry)) (now (queue .entry)) (now (w .exit)) (now (queue .exit)) r ⌝ }
-{
-    let top = givens(known, possible, w, queue);
-    facts(job, count, w, queue, top)
 }

@@ -8,7 +8,7 @@ ghost use Rattle.base.specs.Sets.{setOf};
 ghost use Rattle.job.specs.Accepted.{WellFormed};
 ghost use Rattle.job.specs.Format.{claims, rules, literals, headAt};
 ghost use Rattle.counters.specs.Positions.{owners, Placed};
-ghost use Rattle.counters.specs.Doubts.{Stand, stays, Left, Owed, Falling, Sunk, Negations};
+ghost use Rattle.counters.specs.Doubts.{stays, Left, Owed, Falling, Sunk, Negations};
 use base::wide;
 use job::format;
 
@@ -67,8 +67,8 @@ fn fall(
 ) -> usize
     requires { ⌜ WellFormed (now job) ⌝ }
     requires { ⌜ (Placed (now job) (now start) (now occ)) × (length (now k) ≡ claims (now job)) × (i < bottom) ⌝ }
-    requires { ⌜ ((b : Stand) × Falling (now job) b (setOf (now k)) (owners (now job)) (now fail) (now u) (now list) i (literals (now job)) bottom) ⌝ }
-    ensures { λ r. ⌜ (i < r) × (Sunk (now (job .entry)) (now (k .entry)) (owners (now (job .entry))) (now (fail .entry)) (now (u .entry)) (now (list .entry)) i bottom (now (fail .exit)) (now (u .exit)) (now (list .exit)) (i + 1) (literals (now (job .entry))) r) ⌝ }
+    requires { ⌜ Falling (now job) (setOf (now k)) (owners (now job)) (now fail) (now u) (now list) i (literals (now job)) bottom ⌝ }
+    ensures { λ r. ⌜ (i < r) × (Sunk (now (job .entry)) (now (k .entry)) (owners (now (job .entry))) (now (fail .entry)) (now (u .entry)) (now (list .entry)) bottom (now (fail .exit)) (now (u .exit)) (now (list .exit)) (i + 1) (literals (now (job .entry))) r) ⌝ }
 {
     let key = wide::half(list[i]);
     let end = wide::half(start[key + 1]);
@@ -95,8 +95,8 @@ pub fn sink(
 ) -> usize
     requires { ⌜ WellFormed (now job) ⌝ }
     requires { ⌜ (Placed (now job) (now start) (now occ)) × (length (now k) ≡ claims (now job)) ⌝ }
-    requires { ⌜ ((b : Stand) × Falling (now job) b (setOf (now k)) (owners (now job)) (now fail) (now u) (now list) 0 (literals (now job)) bottom) ⌝ }
-    ensures { λ r. ⌜ Sunk (now (job .entry)) (now (k .entry)) (owners (now (job .entry))) (now (fail .entry)) (now (u .entry)) (now (list .entry)) 0 bottom (now (fail .exit)) (now (u .exit)) (now (list .exit)) r (literals (now (job .entry))) r ⌝ }
+    requires { ⌜ Falling (now job) (setOf (now k)) (owners (now job)) (now fail) (now u) (now list) 0 (literals (now job)) bottom ⌝ }
+    ensures { λ r. ⌜ Sunk (now (job .entry)) (now (k .entry)) (owners (now (job .entry))) (now (fail .entry)) (now (u .entry)) (now (list .entry)) bottom (now (fail .exit)) (now (u .exit)) (now (list .exit)) r (literals (now (job .entry))) r ⌝ }
 {
     let mut i = 0;
     let mut top = bottom;

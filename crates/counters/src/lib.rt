@@ -4,10 +4,3 @@ pub mod derive;
 pub mod doubt;
 pub mod occurrences;
 pub mod recover;
-
-// The bytes of verdicts (semantics/specs/Model: byteOf).
-pub const TRUE: u8 = 1;
-
-pub const FALSE: u8 = 2;
-
-pub const UNDEFINED: u8 = 3;

@@ -1,14 +1,16 @@
 // Rows 1 to 8 of the check table, a function a row. The contracts cite specs/Checks.
 ghost use mathlib.Core.Path.{_≡_};
-ghost use Prim.Native.Nat.{_≤_};
+ghost use Prim.Native.Nat.{ℕ, _<_, _≤_};
 ghost use lib.ListN.{length};
-ghost use Rattle.job.specs.Format.{rules, literals, bodyStart};
+ghost use Rattle.job.specs.Job.{claimOf};
+ghost use Rattle.job.specs.Format.{rules, literals, bodyStart, literalAt};
 ghost use Rattle.job.specs.Accepted.{Sized};
 ghost use Rattle.job.specs.Reading.{Reading};
 ghost use Rattle.job.specs.Checks.{checkLength, checkTotal, checkCounts, checkOffsets, checkHeads, checkBodies, checkLiterals, checkQuestions, checkHeader, checkParts, checkJob};
 use crate::Check;
 use crate::bytes;
 use crate::format;
+use base::wide;
 
 const HEADER_BYTES: usize = 36;
 
@@ -143,7 +145,26 @@ fn check_bodies(job: &[u8]) -> Check
     Check::Accepted
 }
 
-// The claim of each literal is below the claims: rule by rule, the literals of each body, up to the first fault.
+// No literal's claim is above the one answered. One pass without branches, in 16 bits: the compiler takes several literals at once.
+fn highest_claim(job: &[u8]) -> u16
+    requires { ⌜ Sized (now job) ⌝ }
+    ensures { λ r. ⌜ ((k : ℕ) → k < literals (now (job .entry)) → claimOf (literalAt (now (job .entry)) (rules (now (job .entry))) k) ≤ r) ⌝ }
+{
+    let rules = format::rule_count(job);
+    let literals = format::literal_count(job);
+    let mut highest: u16 = 0;
+    for k in 0..literals {
+        let field = bytes::half(job, HEADER_BYTES + 4 * rules + 2 * k);
+        let claim = (field % format::NEGATED) as u16;
+        if highest < claim {
+            highest = claim;
+        }
+    }
+    highest
+}
+
+// The claim of each literal is below the claims: rule by rule, the literals of each body, up to the first fault. Where the highest claim
+// is below them there is none, and no need to look for it.
 fn check_literals(job: &[u8]) -> Check
     requires { ⌜ Sized (now job) ⌝ }
     requires { ⌜ bodyStart (now job) (rules (now job)) ≡ literals (now job) ⌝ }
@@ -151,6 +172,9 @@ fn check_literals(job: &[u8]) -> Check
 {
     let claims = format::claim_count(job);
     let rules = format::rule_count(job);
+    if wide::half(highest_claim(job)) < claims {
+        return Check::Accepted;
+    }
     let mut k: usize = 0;
     'rules: for i in 0..rules {
         let end = k + format::body_length_at(job, i);

@@ -19,7 +19,8 @@ use Rattle.table.specs.Layout.{header, values}
 use Rattle.table.specs.Newest.{isNewer, newer, newest, withNewest}
 use Rattle.table.specs.Start.{startWords}
 use Rattle.table.specs.Reading.{readingOf}
-use Rattle.turn.specs.Turn.{lits, litAt, failed, clear, leads, anyLeads, spread, spreads, reached, allPassed, completedMark, openClaim, markAll, meets, askTurn, passTurn, workTurn, baseTurn, turn, runTable, runKinds}
+use Rattle.turn.specs.Turn.{lits, litAt, clear, leads, anyLeads, spread, spreads, reached, allPassed, completedMark, openClaim, markAll, meets, askTurn, passTurn, workTurn, baseTurn, turn, runTable, runKinds}
+use Rattle.table.specs.Literals.{failed}
 use Rattle.calls.specs.Calls.{checkSchedule, counted, tally}
 use Rattle.listing.specs.Finish.{answeredAll, nextWorker, finishTurns}
 use Rattle.listing.specs.Listing.{jobEnd, listingCheck, questionLines, textOf, played, lastTable, listed, listingIf, listing}

@@ -14,13 +14,12 @@ use native.Mathlib.Decide.{ℕ-discrete}
 use lib.Dec.{T, T-not}
 use lib.ListN.{length, getD}
 use Rattle.base.specs.Sets.{Claims, _⊆_, count, setOf}
-use Rattle.base.proofs.Bools.{is, is-not, same, and-left, and-right}
+use Rattle.base.proofs.Bools.{is-not, same, and-left, and-right}
 use Rattle.base.proofs.Sets.{count-less}
 use Rattle.job.specs.Accepted.{WellFormed}
-use Rattle.job.specs.Format.{claims, literals}
-use Rattle.semantics.specs.Model.{D, K, U}
+use Rattle.job.specs.Format.{claims, literals, jobOf}
+use Rattle.semantics.specs.Model.{programOf, D, K, U}
 use Rattle.semantics.proofs.LeastSet.{D-antitone}
-use Rattle.model.specs.Exchanged.{givenProgram}
 use Rattle.counters.specs.Positions.{keys, owners}
 use Rattle.counters.specs.Queues.{seen, Queue}
 use Rattle.counters.specs.Counters.{Raised}
@@ -34,9 +33,9 @@ use Rattle.model.proofs.Rounds.{Round, rising-next, rising-stays}
 
 -- an empty queue, and doubted claims, for as many claims as u has
 pub lose-ready :
-    (s g : List ℕ) (K : Claims) (fail u l q : List ℕ) (from end : ℕ) → WellFormed s → Upper s g K fail u → Doubted (claims s) l from end → keys s ≤ length q
+    (s : List ℕ) (K : Claims) (fail u l q : List ℕ) (from end : ℕ) → WellFormed s → Upper s K fail u → Doubted (claims s) l from end → keys s ≤ length q
     → ((Doubted (length u) l from end) × (Queue (2 * length u) q 0) × (length u ≤ 32768)) × ((c : ℕ) → seen q 0 (2 * c + 1) ≡ false)
-lose-ready s g K fail u l q from end good upper doubted long = (
+lose-ready s K fail u l q from end good upper doubted long = (
   (
     subst⁻¹ (λ (n : ℕ). Doubted n l from end) (upper .size) doubted,
     record { long = omega (arith, upper .size); fresh = λ j m. absurd (omega arith); small = λ j m. absurd (omega arith) },
@@ -45,16 +44,16 @@ lose-ready s g K fail u l q from end good upper doubted long = (
   λ c. seen-none q (2 * c + 1),
 )
 
-module _ (s g : List ℕ) (K₀ : Claims) (fail k u q : List ℕ) (t : ℕ) (now : Risen s g K₀ fail k u q t) where
+module _ (s : List ℕ) (K₀ : Claims) (fail k u q : List ℕ) (t : ℕ) (now : Risen s K₀ fail k u q t) where
   pub shrunk-by :
-      (fail′ u₁ u′ l : List ℕ) (end : ℕ) → Upper s g (setOf k) fail′ u′ → setOf u₁ ⊆ setOf u′ → ((c : ℕ) → setOf u c ≡ (setOf u₁ c || seen l end (2 * c)))
-      → (q₁ q′ : List ℕ) (t′ : ℕ) → Lost u′ l end q₁ 0 q′ t′ → Shrunk s g k u fail′ u′ q′ t′
+      (fail′ u₁ u′ l : List ℕ) (end : ℕ) → Upper s (setOf k) fail′ u′ → setOf u₁ ⊆ setOf u′ → ((c : ℕ) → setOf u c ≡ (setOf u₁ c || seen l end (2 * c)))
+      → (q₁ q′ : List ℕ) (t′ : ℕ) → Lost u′ l end q₁ 0 q′ t′ → Shrunk s k u fail′ u′ q′ t′
   shrunk-by fail′ u₁ u′ l end upper keeps left q₁ q′ t′ lost =
       record {
         upper = upper;
         fewer = λ c v.
             subst⁻¹ (λ (X : Claims). T (X c)) (now .upper .is)
-            (D-antitone (givenProgram s g) (setOf k) K₀ (now .kept) c (subst (λ (X : Claims). T (X c)) (upper .is) v));
+            (D-antitone (programOf (jobOf s)) (setOf k) K₀ (now .kept) c (subst (λ (X : Claims). T (X c)) (upper .is) v));
         queue = subst (λ (n : ℕ). Queue (2 * n) q′ t′) (upper .size) (lost .queue);
         plain = λ c. lost .plain c ∙ seen-none q₁ (2 * c);
         negated = λ c.
@@ -68,21 +67,21 @@ module _ (s g : List ℕ) (K₀ : Claims) (fail k u q : List ℕ) (t : ℕ) (now
       go true false z f = absurd (f tt)
       go false y z f = refl
 
-  round : Round (givenProgram s g) K₀ (setOf u) (setOf k)
+  round : Round (programOf (jobOf s)) K₀ (setOf u) (setOf k)
   round = record { nextU = now .upper .is; nextK = now .is }
 
-  next : Rising (givenProgram s g) (setOf k)
-  next = rising-next (givenProgram s g) K₀ (now .rising) (setOf u) (setOf k) round
+  next : Rising (programOf (jobOf s)) (setOf k)
+  next = rising-next (programOf (jobOf s)) K₀ (now .rising) (setOf u) (setOf k) round
 
-  module _ (fail′ u′ q′ : List ℕ) (t′ : ℕ) (shrunk : Shrunk s g k u fail′ u′ q′ t′) where
-    pub poised-stops : t′ ≡ 0 → (setOf k ≡ K (givenProgram s g)) × (setOf u′ ≡ U (givenProgram s g))
+  module _ (fail′ u′ q′ : List ℕ) (t′ : ℕ) (shrunk : Shrunk s k u fail′ u′ q′ t′) where
+    pub poised-stops : t′ ≡ 0 → (setOf k ≡ K (programOf (jobOf s))) × (setOf u′ ≡ U (programOf (jobOf s)))
     poised-stops e =
         let stays : setOf u ≡ setOf u′ =
         fun-ext
         (λ c. same (setOf u c) (setOf u′ c)
         (λ v. kept c v (sym (shrunk .negated c) ∙ ap (λ (n : ℕ). seen q′ n (2 * c + 1)) e ∙ seen-none q′ (2 * c + 1)))
         (shrunk .fewer c)) in
-        let m = rising-stays (givenProgram s g) K₀ (now .rising) (setOf u) (setOf k) round (stays ∙ shrunk .upper .is) in
+        let m = rising-stays (programOf (jobOf s)) K₀ (now .rising) (setOf u) (setOf k) round (stays ∙ shrunk .upper .is) in
         (m .0, sym stays ∙ m .1)
       where
         kept : (c : ℕ) → T (setOf u c) → (setOf u c && not (setOf u′ c)) ≡ false → T (setOf u′ c)
@@ -114,25 +113,24 @@ module _ (s g : List ℕ) (K₀ : Claims) (fail k u q : List ℕ) (t : ℕ) (now
         parity : (getD q′ 0 0 ≡ 2 * (getD q′ 0 0 / 2)) ⊎ (getD q′ 0 0 ≡ 2 * (getD q′ 0 0 / 2) + 1)
         parity = by-cases (ℕ-discrete (getD q′ 0 0) (2 * (getD q′ 0 0 / 2))) inl (λ d. inr (omega arith))
 
-module _ (s g : List ℕ) (K₀ : Claims) (good : WellFormed s) (need fail k u q : List ℕ) (t : ℕ) (now : Poised s g K₀ need fail k u q t) (need′ k′ q₁ : List ℕ) (t₁ : ℕ) (raised : Raised s (owners s) need k q 0 t need′ k′ q₁ t₁ (literals s) t₁) where
-  risen : Risen s g K₀ fail k′ u q₁ t₁
-  risen = risen-by s g K₀ good need fail k u q t now need′ k′ q₁ t₁ raised
+module _ (s : List ℕ) (K₀ : Claims) (good : WellFormed s) (need fail k u q : List ℕ) (t : ℕ) (now : Poised s K₀ need fail k u q t) (need′ k′ q₁ : List ℕ) (t₁ : ℕ) (raised : Raised s (owners s) need k q 0 t need′ k′ q₁ t₁ (literals s) t₁) where
+  risen : Risen s K₀ fail k′ u q₁ t₁
+  risen = risen-by s K₀ good need fail k u q t now need′ k′ q₁ t₁ raised
 
   pub poised-next :
-      (fail′ u′ q′ : List ℕ) (t′ : ℕ) → Shrunk s g k′ u fail′ u′ q′ t′ → Poised s g (setOf k′) need′ fail′ k′ u′ q′ t′
+      (fail′ u′ q′ : List ℕ) (t′ : ℕ) → Shrunk s k′ u fail′ u′ q′ t′ → Poised s (setOf k′) need′ fail′ k′ u′ q′ t′
   poised-next fail′ u′ q′ t′ shrunk =
-      let end = raised .carried .each (aimK s g (setOf u)) (now .growing) in
+      let end = raised .carried .each (aimK s (setOf u)) (now .growing) in
       let from =
-      growing-from s (aimK s g (setOf u)) (owners s) need′ k′ q₁ (growing-counts end) (end .fits .size) (end .fits .queue .long) (end .inside) (end .closed) in
+      growing-from s (aimK s (setOf u)) (owners s) need′ k′ q₁ (growing-counts end) (end .fits .size) (end .fits .queue .long) (end .inside) (end .closed) in
       record {
-        rising = next s g K₀ fail k′ u q₁ t₁ risen;
+        rising = next s K₀ fail k′ u q₁ t₁ risen;
         upper = shrunk .upper;
         growing =
-            growing-lost s (aimK s g (setOf u)) (owners s) need′ k′ q₁ 0 q′ t′ (setOf u′) good from (shrunk .queue)
+            growing-lost s (aimK s (setOf u)) (owners s) need′ k′ q₁ 0 q′ t′ (setOf u′) good from (shrunk .queue)
             (λ c. shrunk .plain c ∙ sym (seen-none q₁ (2 * c))) (λ c. seen-none q₁ (2 * c + 1)) (shrunk .negated) (λ c l v. shrunk .fewer c v)
-            (D (givenProgram s g) (setOf u′)) (λ c v. D-antitone (givenProgram s g) (setOf u) (setOf u′) (shrunk .fewer) c (end .inside c v)) (closed-need s g good (setOf u′));
+            (D (programOf (jobOf s)) (setOf u′)) (λ c v. D-antitone (programOf (jobOf s)) (setOf u) (setOf u′) (shrunk .fewer) c (end .inside c v)) (closed-need s good (setOf u′));
         ready = raised .ready;
-        given = λ c x. raised .grown .keeps c (now .given c x);
         joined = λ c. shrunk .plain c ∙ sym (and-not-self (setOf k′ c));
         kept = λ c v. v;
       }

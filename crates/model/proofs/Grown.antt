@@ -16,21 +16,20 @@ use Rattle.base.specs.Sets.{Claims, _⊆_, setOf}
 use Rattle.base.proofs.Bools.{is-not, same, and-right}
 use Rattle.job.specs.Job.{claimOf}
 use Rattle.job.specs.Accepted.{WellFormed}
-use Rattle.job.specs.Format.{claims, rules, literals, headAt, missingAt, literalAt}
+use Rattle.job.specs.Format.{claims, rules, literals, headAt, missingAt, literalAt, jobOf}
 use Rattle.job.specs.declared.Literal.{Literal}
 use Rattle.job.specs.declared.Literal.the-variants.{Plain, Negated}
-use Rattle.semantics.specs.Model.{holds, D}
-use Rattle.model.specs.Exchanged.{givenProgram}
+use Rattle.semantics.specs.Model.{programOf, holds, step, D}
 use Rattle.counters.specs.Positions.{keyOf, keyAt, keys, owners, Counts, needBase, failBase}
 use Rattle.counters.specs.Queues.{seen, Queue, pending, Joins, none, more}
-use Rattle.counters.specs.Counters.{lacking, Aim, Closed, Ready, Growing, Given, Idle}
+use Rattle.counters.specs.Counters.{lacking, Aim, Closed, Ready, Growing, Idle}
 use Rattle.semantics.proofs.LeastSet.{D-least}
 use Rattle.counters.proofs.Counting.{counts-same}
 use Rattle.counters.proofs.Lacking.{nothing-lacks}
 use Rattle.counters.proofs.Owning.{Owned, owners-owned}
 use Rattle.model.proofs.Roles.{covers-need, covers-fail}
 use Rattle.counters.proofs.Queues.{seen-none, pending-end, pending-start}
-use Rattle.counters.proofs.Beginning.{fits-empty, given-true, given-undefined}
+use Rattle.counters.proofs.Beginning.{fits-empty}
 use Rattle.counters.proofs.Growing.{growing-joined, growing-fires}
 
 pub growing-counts :
@@ -107,24 +106,20 @@ module _ (s : List ℕ) (a : Aim) (own cnt w q : List ℕ) (t : ℕ) (q′ : Lis
       }
 
 -- where all keys are taken, and each rule that counts nothing has its head in w
-module _ (s g : List ℕ) (good : WellFormed s) (S : Claims) (cnt w : List ℕ) (ready : Ready s cnt w (rules s)) (inside : setOf w ⊆ D (givenProgram s g) S) where
-  pub grown-K :
-      Counts s (owners s) cnt (needBase s g) (lacking s S (setOf w)) → ((c : ℕ) → Given g false c → T (setOf w c)) → ((c : ℕ) → Given g true c → T (S c))
-      → ((r : ℕ) → r < rules s → failBase s g r ≡ 0 → missingAt s r ≡ true → T (S (headAt s r))) → setOf w ≡ D (givenProgram s g) S
-  grown-K counts given sure missing =
-      fun-ext
-      (λ c. same (setOf w c) (D (givenProgram s g) S c) (inside c)
-      (D-least (givenProgram s g) S (setOf w)
-      (covers-need s g good S (setOf w) (λ d l e. given d (given-true g false d e)) (λ d l e. sure d (given-undefined g d e)) missing
-      (λ r l z f. ready .ready r l (nothing-lacks s good S (setOf w) (owners-owned s good) counts r l z f)))
-      c))
+module _ (s : List ℕ) (good : WellFormed s) (S : Claims) (cnt w : List ℕ) (ready : Ready s cnt w (rules s)) (inside : setOf w ⊆ D (programOf (jobOf s)) S) where
+  grown : step (programOf (jobOf s)) S (setOf w) ⊆ setOf w → setOf w ≡ D (programOf (jobOf s)) S
+  grown covered = fun-ext (λ c. same (setOf w c) (D (programOf (jobOf s)) S c) (inside c) (D-least (programOf (jobOf s)) S (setOf w) covered c))
 
-  pub grown-U :
-      Counts s (owners s) cnt (failBase s g) (lacking s S (setOf w)) → ((c : ℕ) → Given g true c → T (setOf w c)) → setOf w ≡ D (givenProgram s g) S
-  grown-U counts given =
-      fun-ext
-      (λ c. same (setOf w c) (D (givenProgram s g) S c) (inside c)
-      (D-least (givenProgram s g) S (setOf w)
-      (covers-fail s g good S (setOf w) (λ d l e. given d (given-true g true d e)) (λ d l e. given d (given-undefined g d e))
+  pub grown-K :
+      Counts s (owners s) cnt (needBase s) (lacking s S (setOf w)) → ((r : ℕ) → r < rules s → missingAt s r ≡ true → T (S (headAt s r)))
+      → setOf w ≡ D (programOf (jobOf s)) S
+  grown-K counts missing =
+      grown
+      (covers-need s S (setOf w) missing
       (λ r l z f. ready .ready r l (nothing-lacks s good S (setOf w) (owners-owned s good) counts r l z f)))
-      c))
+
+  pub grown-U : Counts s (owners s) cnt failBase (lacking s S (setOf w)) → setOf w ≡ D (programOf (jobOf s)) S
+  grown-U counts =
+      grown
+      (covers-fail s S (setOf w)
+      (λ r l f. ready .ready r l (nothing-lacks s good S (setOf w) (owners-owned s good) counts r l refl f)))

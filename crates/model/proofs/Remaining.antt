@@ -5,24 +5,23 @@
 use Rattle.counters.proofs.Owning.{Owned}
 use Rattle.counters.proofs.Positions.{holds-wider}
 use Prim.Native.Nat.{ℕ, zero, suc, _<_}
-use mathlib.Core.Path.{_≡_, subst, subst⁻¹}
+use mathlib.Core.Path.{_≡_, refl, subst, subst⁻¹}
 use mathlib.Core.List.{List}
 use mathlib.Core.Logic.{by-cases}
 use lib.Dec.{T}
 use lib.ListN.{getD}
 use Rattle.base.specs.Sets.{Claims, _⊆_, iterate, setOf}
 use Rattle.base.proofs.Choose.{t?}
-use Rattle.job.specs.Format.{rules, headAt, literalAt}
+use Rattle.job.specs.Format.{rules, headAt, literalAt, jobOf}
 use Rattle.job.specs.Accepted.{WellFormed}
 use Rattle.job.specs.declared.Literal.{Literal}
 use Rattle.job.specs.declared.Literal.the-variants.{Plain, Negated}
-use Rattle.semantics.specs.Model.{Program, holds, step, D}
+use Rattle.semantics.specs.Model.{programOf, Program, holds, step, D}
 use Rattle.semantics.proofs.LeastSet.{step-more, D-closed}
-use Rattle.model.specs.Exchanged.{givenProgram}
 use Rattle.counters.specs.Positions.{Within, Counts, failBase}
 use Rattle.counters.specs.Counters.{lacking}
 use Rattle.counters.specs.Doubts.{Kept}
-use Rattle.model.proofs.Steps.{step-rule, step-missing, step-true, step-undefined, ByStep, by-true, by-undefined, by-rule, by-missing, rule-of-step}
+use Rattle.model.proofs.Steps.{step-rule, step-missing, ByStep, by-rule, by-missing, rule-of-step}
 use Rattle.counters.proofs.Lacking.{nothing-lacks, all-hold}
 
 stage-in : (P : Program) (S : Claims) (n : ℕ) → iterate (step P S) n ⊆ D P S
@@ -35,34 +34,32 @@ holds-both : (K₀ W K U X : Claims) → ((d : ℕ) → T (W d) → T (U d) → 
 holds-both K₀ W K U X f (Plain d) t v = f d t v
 holds-both K₀ W K U X f (Negated d) t v = v
 
-module _ (s g : List ℕ) (good : WellFormed s) (K₀ K : Claims) (own cnt₀ cnt u₀ u : List ℕ) (owned : Owned s own) where
+module _ (s : List ℕ) (good : WellFormed s) (K₀ K : Claims) (own cnt₀ cnt u₀ u : List ℕ) (owned : Owned s own) where
   abbrev P : Program
-  P = givenProgram s g
+  P = programOf (jobOf s)
 
-  module _ (counts₀ : Counts s own cnt₀ (failBase s g) (lacking s K₀ (setOf u₀))) (counts : Counts s own cnt (failBase s g) (lacking s K (setOf u))) (made : setOf u₀ ≡ D P K₀) (same : Kept s K cnt₀ cnt u) where
+  module _ (counts₀ : Counts s own cnt₀ failBase (lacking s K₀ (setOf u₀))) (counts : Counts s own cnt failBase (lacking s K (setOf u))) (made : setOf u₀ ≡ D P K₀) (same : Kept s K cnt₀ cnt u) where
     -- W is a stage of D(K₀)
     module _ (W : Claims) (early : W ⊆ D P K₀) (before : (d : ℕ) → T (W d) → T (setOf u d) → T (D P K d)) where
       -- the literals of a rule that fired against K₀, and whose head is left and not in K
       still-hold :
-          (r : ℕ) → r < rules s → failBase s g r ≡ 0 → T (setOf u (headAt s r)) → (T (K (headAt s r)) → ⊥)
+          (r : ℕ) → r < rules s → T (setOf u (headAt s r)) → (T (K (headAt s r)) → ⊥)
           → ((p : ℕ) → Within s p r → T (holds K₀ W (literalAt s (rules s) p)))
           → (p : ℕ) → Within s p r → T (holds K (D P K) (literalAt s (rules s) p))
-      still-hold r l e v out f p w =
+      still-hold r l v out f p w =
           let in₀ : W ⊆ setOf u₀ = subst⁻¹ (λ (X : Claims). W ⊆ X) made early in
-          let z₀ : getD cnt₀ r 0 ≡ 0 = nothing-lacks s good K₀ (setOf u₀) owned counts₀ r l e (λ j i. holds-wider K₀ W (setOf u₀) in₀ (literalAt s (rules s) j) (f j i)) in
+          let z₀ : getD cnt₀ r 0 ≡ 0 = nothing-lacks s good K₀ (setOf u₀) owned counts₀ r l refl (λ j i. holds-wider K₀ W (setOf u₀) in₀ (literalAt s (rules s) j) (f j i)) in
           let now = all-hold s good K (setOf u) owned counts r l (same .kept r l z₀ v out) in
           holds-both K₀ W K (setOf u) (D P K) before (literalAt s (rules s) p) (f p w) (now .1 p w)
 
-      again : (c : ℕ) → T (setOf u c) → (T (K c) → ⊥) → ByStep s g K₀ W c → T (step P K (D P K) c)
-      again c v out (by-true l e) = step-true s g K (D P K) c l e
-      again c v out (by-undefined l e n) = step-undefined s g K (D P K) c l e out
-      again c v out (by-rule r l h e m f) =
+      again : (c : ℕ) → T (setOf u c) → (T (K c) → ⊥) → ByStep s K₀ W c → T (step P K (D P K) c)
+      again c v out (by-rule r l h m f) =
           subst (λ (d : ℕ). T (step P K (D P K) d)) h
-          (step-rule s g K (D P K) good r l e m
-          (still-hold r l e (subst⁻¹ (λ (d : ℕ). T (setOf u d)) h v) (λ k. out (subst (λ (d : ℕ). T (K d)) h k)) f))
-      again c v out (by-missing r l h e m n) =
+          (step-rule s K (D P K) good r l m
+          (still-hold r l (subst⁻¹ (λ (d : ℕ). T (setOf u d)) h v) (λ k. out (subst (λ (d : ℕ). T (K d)) h k)) f))
+      again c v out (by-missing r l h m n) =
           subst (λ (d : ℕ). T (step P K (D P K) d)) h
-          (step-missing s g K (D P K) good r l e m (λ k. out (subst (λ (d : ℕ). T (K d)) h k)))
+          (step-missing s K (D P K) good r l m (λ k. out (subst (λ (d : ℕ). T (K d)) h k)))
 
     module _ (below : K ⊆ D P K) where
       by-stages : (n c : ℕ) → T (iterate (step P K₀) n c) → T (setOf u c) → T (D P K c)
@@ -72,8 +69,8 @@ module _ (s g : List ℕ) (good : WellFormed s) (K₀ K : Claims) (own cnt₀ cn
           by-cases (t? (K c)) (below c)
           (λ out.
           D-closed P K c
-          (again (iterate (step P K₀) n) (stage-in P K₀ n) (by-stages n) c v out (rule-of-step s g K₀ (iterate (step P K₀) n) c t)))
+          (again (iterate (step P K₀) n) (stage-in P K₀ n) (by-stages n) c v out (rule-of-step s K₀ (iterate (step P K₀) n) c t)))
 
-      pub sunk : setOf u ⊆ setOf u₀ → setOf u ⊆ D (givenProgram s g) K
+      pub sunk : setOf u ⊆ setOf u₀ → setOf u ⊆ D (programOf (jobOf s)) K
       unfolding D
       sunk fewer c v = by-stages (P .claims) c (subst (λ (X : Claims). T (X c)) made (fewer c v)) v

@@ -44,10 +44,10 @@ pub claims-part : {s xs : List ℕ} {n a m l : ℕ} → n ≡ claims s → Withi
 claims-part {s} {xs} {n} {a} e w z = sym (length-take-le n xs (omega (arith, w .claimsFew, long-as a z)))
 
 pub unused-of :
-    {s g start occ tail need fail k u q l : List ℕ} {n : ℕ} (a m p x : ℕ) → Within s a m p → a ≤ m → 2 * a < x → n ≡ claims s → length g ≤ claims s
+    {s start occ tail need fail k u q l : List ℕ} {n : ℕ} (a m p x : ℕ) → Within s a m p → a ≤ m → 2 * a < x → n ≡ claims s
     → start ≡ replicate x 0 → occ ≡ replicate p 0 → tail ≡ replicate m 0 → need ≡ replicate m 0 → fail ≡ replicate m 0 → k ≡ replicate a 0
-    → u ≡ replicate a 0 → q ≡ replicate x 0 → l ≡ replicate x 0 → Unused s g start occ tail need fail (take n k) (take n u) q l
-unused-of {s} {g} {start} {occ} {tail} {need} {fail} {k} {u} {q} {l} {n} a m p x w am ax e few e₁ e₂ e₃ e₄ e₅ e₆ e₇ e₈ e₉ =
+    → u ≡ replicate a 0 → q ≡ replicate x 0 → l ≡ replicate x 0 → Unused s start occ tail need fail (take n k) (take n u) q l
+unused-of {s} {start} {occ} {tail} {need} {fail} {k} {u} {q} {l} {n} a m p x w am ax e e₁ e₂ e₃ e₄ e₅ e₆ e₇ e₈ e₉ =
     record {
       room =
           record {
@@ -59,7 +59,6 @@ unused-of {s} {g} {start} {occ} {tail} {need} {fail} {k} {u} {q} {l} {n} a m p x
             noStart = zero-at x e₁;
             noTail = zero-at m e₃;
           };
-      few = few;
       noK = λ c. front-at n c k (zero-at a e₆);
       noU = λ c. front-at n c u (zero-at a e₇);
       sizeK = length-take-le n k (omega (arith, w .claimsFew, long-as a e₆)) ∙ e;

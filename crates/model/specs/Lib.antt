@@ -1,4 +1,3 @@
-pub mod Exchanged
 pub mod Output
 pub mod Rounds
 pub mod Rooms

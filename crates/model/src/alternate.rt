@@ -4,12 +4,12 @@ ghost use mathlib.Core.Path.{_≡_};
 ghost use Prim.Native.Nat.{ℕ, _≤_};
 ghost use lib.ListN.{length};
 ghost use mathlib.Core.List.{List};
-ghost use Rattle.base.specs.Sets.{nothing, setOf};
+ghost use Rattle.base.specs.Sets.{Claims, nothing, setOf};
 ghost use Rattle.job.specs.Accepted.{WellFormed};
-ghost use Rattle.semantics.specs.Model.{K, U};
-ghost use Rattle.model.specs.Exchanged.{givenProgram};
+ghost use Rattle.job.specs.Format.{jobOf};
+ghost use Rattle.semantics.specs.Model.{programOf, K, U};
 ghost use Rattle.counters.specs.Positions.{keys, Placed, Ends};
-ghost use Rattle.model.specs.Rounds.{Upper, Poised, Risen, Course, Fell, Regained, Shrunk, BlankU, BlankK};
+ghost use Rattle.model.specs.Rounds.{Upper, Poised, Risen, Fell, Regained, Shrunk, BlankU, BlankK};
 use counters::derive;
 use counters::doubt;
 use counters::recover;
@@ -29,7 +29,7 @@ fn regain(
 )
     requires { ⌜ WellFormed (now job) ⌝ }
     requires { ⌜ (Placed (now job) (now start) (now occ)) × (Ends (now job) (now tail)) × (keys (now job) ≤ length (now queue)) ⌝ }
-    requires { ⌜ ((a : Course) × Fell (now job) a (now fail) (now u) (now list) from end) ⌝ }
+    requires { ⌜ ((K : Claims) × Fell (now job) K (now fail) (now u) (now list) from end) ⌝ }
     ensures { λ r. ⌜ Regained (now (job .entry)) (now (fail .entry)) (now (u .entry)) (now (list .entry)) from end (now (fail .exit)) (now (u .exit)) ⌝ }
 {
     let again = recover::recover(job, tail, fail, list, from, end, u, queue);
@@ -52,8 +52,8 @@ fn shrink(
 ) -> usize
     requires { ⌜ WellFormed (now job) ⌝ }
     requires { ⌜ (Placed (now job) (now start) (now occ)) × (Ends (now job) (now tail)) × (keys (now job) ≤ length (now list)) ⌝ }
-    requires { ⌜ ((a : Course) × Risen (now job) (a .known) (a .before) (now fail) (now k) (now u) (now queue) risen) ⌝ }
-    ensures { λ r. ⌜ ((a : Course) → Risen (now (job .entry)) (a .known) (a .before) (now (fail .entry)) (now (k .entry)) (now (u .entry)) (now (queue .entry)) risen → Shrunk (now (job .entry)) (a .known) (now (k .entry)) (now (u .entry)) (now (fail .exit)) (now (u .exit)) (now (queue .exit)) r) ⌝ }
+    requires { ⌜ ((K₀ : Claims) × Risen (now job) K₀ (now fail) (now k) (now u) (now queue) risen) ⌝ }
+    ensures { λ r. ⌜ ((K₀ : Claims) → Risen (now (job .entry)) K₀ (now (fail .entry)) (now (k .entry)) (now (u .entry)) (now (queue .entry)) risen → Shrunk (now (job .entry)) (now (k .entry)) (now (u .entry)) (now (fail .exit)) (now (u .exit)) (now (queue .exit)) r) ⌝ }
 {
     let from = doubt::negate(queue, risen, list);
     let end = doubt::sink(job, start, occ, k, fail, u, list, from);
@@ -64,7 +64,6 @@ fn shrink(
 // U = D of nothing, from empty sets.
 fn first_u(
     job: &[u8],
-    known: &[u8],
     start: &[u16],
     occ: &[u16],
     fail: &mut [u16],
@@ -72,17 +71,16 @@ fn first_u(
     queue: &mut [u16],
 )
     requires { ⌜ WellFormed (now job) ⌝ }
-    requires { ⌜ (Placed (now job) (now start) (now occ)) × (BlankU (now job) (now known) (now fail) (now u) (now queue)) ⌝ }
-    ensures { λ r. ⌜ Upper (now (job .entry)) (now (known .entry)) nothing (now (fail .exit)) (now (u .exit)) ⌝ }
+    requires { ⌜ (Placed (now job) (now start) (now occ)) × (BlankU (now job) (now fail) (now u) (now queue)) ⌝ }
+    ensures { λ r. ⌜ Upper (now (job .entry)) nothing (now (fail .exit)) (now (u .exit)) ⌝ }
 {
-    let top = derive::begin(job, known, true, fail, u, queue);
+    let top = derive::begin(job, fail, u, queue);
     derive::rise(job, start, occ, fail, u, queue, top);
 }
 
 // K before its first D, where U is D of nothing. How many keys the queue then has.
 fn first_k(
     job: &[u8],
-    known: &[u8],
     need: &[u16],
     k: &mut [u8],
     u: &[u8],
@@ -90,10 +88,10 @@ fn first_k(
     list: &mut [u16],
 ) -> usize
     requires { ⌜ WellFormed (now job) ⌝ }
-    requires { ⌜ BlankK (now job) (now known) (now need) (now k) (now u) (now queue) (now list) ⌝ }
-    ensures { λ r. ⌜ ((fail : List ℕ) → Upper (now (job .entry)) (now (known .entry)) nothing fail (now (u .entry)) → Poised (now (job .entry)) (now (known .entry)) nothing (now (need .entry)) fail (now (k .exit)) (now (u .entry)) (now (queue .exit)) r) ⌝ }
+    requires { ⌜ BlankK (now job) (now need) (now k) (now u) (now queue) (now list) ⌝ }
+    ensures { λ r. ⌜ ((fail : List ℕ) → Upper (now (job .entry)) nothing fail (now (u .entry)) → Poised (now (job .entry)) nothing (now (need .entry)) fail (now (k .exit)) (now (u .entry)) (now (queue .exit)) r) ⌝ }
 {
-    let top = derive::begin(job, known, false, need, k, queue);
+    let top = derive::begin(job, need, k, queue);
     recover::list_all(u.len(), list);
     recover::lose(u, list, 0, u.len(), queue, top)
 }
@@ -101,7 +99,6 @@ fn first_k(
 // K in k and U in u, from empty sets and counters at the start.
 pub fn alternate(
     job: &[u8],
-    known: &[u8],
     start: &[u16],
     occ: &[u16],
     tail: &[u16],
@@ -114,12 +111,12 @@ pub fn alternate(
 )
     requires { ⌜ WellFormed (now job) ⌝ }
     requires { ⌜ (Placed (now job) (now start) (now occ)) × (Ends (now job) (now tail)) ⌝ }
-    requires { ⌜ (BlankU (now job) (now known) (now fail) (now u) (now queue)) × (BlankK (now job) (now known) (now need) (now k) (now u) (now queue) (now list)) ⌝ }
-    ensures { λ r. ⌜ setOf (now (k .exit)) ≡ K (givenProgram (now (job .entry)) (now (known .entry))) ⌝ }
-    ensures { λ r. ⌜ setOf (now (u .exit)) ≡ U (givenProgram (now (job .entry)) (now (known .entry))) ⌝ }
+    requires { ⌜ (BlankU (now job) (now fail) (now u) (now queue)) × (BlankK (now job) (now need) (now k) (now u) (now queue) (now list)) ⌝ }
+    ensures { λ r. ⌜ setOf (now (k .exit)) ≡ K (programOf (jobOf (now (job .entry)))) ⌝ }
+    ensures { λ r. ⌜ setOf (now (u .exit)) ≡ U (programOf (jobOf (now (job .entry)))) ⌝ }
 {
-    first_u(job, known, start, occ, fail, u, queue);
-    let mut top = first_k(job, known, need, k, u, queue, list);
+    first_u(job, start, occ, fail, u, queue);
+    let mut top = first_k(job, need, k, u, queue, list);
     loop {
         let risen = derive::rise(job, start, occ, need, k, queue, top);
         top = shrink(job, start, occ, tail, k, fail, u, queue, list, risen);

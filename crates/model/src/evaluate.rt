@@ -3,24 +3,25 @@ ghost use mathlib.Core.Path.{_≡_};
 ghost use Prim.Native.Nat.{_≤_};
 ghost use lib.ListN.{length};
 ghost use Rattle.job.specs.Accepted.{WellFormed};
-ghost use Rattle.job.specs.Format.{claims};
-ghost use Rattle.model.specs.Output.{Evaluated, KnownEvaluated};
+ghost use Rattle.job.specs.Format.{claims, jobOf};
+ghost use Rattle.job.specs.declared.Check.the-variants.{Accepted};
+ghost use Rattle.semantics.specs.Model.{programOf};
+ghost use Rattle.model.specs.Output.{OutputBytes, outputOf, Evaluated};
 use crate::rooms;
 use job::Check;
 use job::checks;
 use job::format;
 
-// The verdicts of the job in which each claim whose verdict is known (a byte a claim, 0 for none) has its rules exchanged by it:
-// a byte a claim into `out`, and nothing after them.
-pub fn evaluate_known(job: &[u8], known: &[u8], out: &mut [u8])
-    requires { ⌜ WellFormed (now job) ⌝ }
-    requires { ⌜ (length (now known) ≡ claims (now job)) × (claims (now job) ≤ length (now out)) ⌝ }
-    ensures { λ r. ⌜ KnownEvaluated (now (job .entry)) (now (known .entry)) (now (out .entry)) (now (out .exit)) ⌝ }
+// The evaluation of an accepted job.
+pub fn evaluate_accepted(job: &[u8], out: &mut [u8])
+    requires { ⌜ WellFormed (now job) × (claims (now job) ≤ length (now out)) ⌝ }
+    ensures { λ r. ⌜ OutputBytes (now (job .entry)) (programOf (jobOf (now (job .entry)))) (now (out .entry)) (now (out .exit)) ⌝ }
+    ensures { λ r. ⌜ now (out .exit) ≡ outputOf Accepted (now (job .entry)) (now (out .entry)) ⌝ }
 {
-    rooms::evaluate_given(job, known, out);
+    rooms::evaluate(job, out);
 }
 
-// Plain evaluation, with no verdict known: rows 1 to 8 of the check table, then 13. Accepted, byte c of `out` is the verdict of
+// Plain evaluation: rows 1 to 8 of the check table, then 13. Accepted, byte c of `out` is the verdict of
 // claim c, and every byte past the claims is as it was; refused, `out` is as it was.
 pub fn evaluate(job: &[u8], out: &mut [u8]) -> Check
     ensures { λ r. ⌜ Evaluated (now (job .entry)) (now (out .entry)) r (now (out .exit)) ⌝ }
@@ -36,7 +37,6 @@ pub fn evaluate(job: &[u8], out: &mut [u8]) -> Check
             place: n,
         };
     }
-    let known = [0u8; 1];
-    rooms::evaluate_given(job, &known[..0], out);
+    evaluate_accepted(job, out);
     Check::Accepted
 }

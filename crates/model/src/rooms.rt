@@ -7,7 +7,8 @@ ghost use lib.ListN.{length, replicate};
 ghost use Rattle.job.specs.Accepted.{WellFormed};
 ghost use Rattle.job.specs.Job.{mostClaims, mostRules, mostLiterals};
 ghost use Rattle.job.specs.Format.{claims};
-ghost use Rattle.model.specs.Output.{knownOutput};
+ghost use Rattle.job.specs.declared.Check.the-variants.{Accepted};
+ghost use Rattle.model.specs.Output.{outputOf};
 ghost use Rattle.model.specs.Rooms.{Within};
 ghost use Rattle.model.specs.Rounds.{Unused};
 use crate::alternate;
@@ -44,7 +45,6 @@ const LARGE_KEYS: usize = 8193;
 // The evaluation, in tables that nothing was done with yet.
 fn evaluate_in(
     job: &[u8],
-    known: &[u8],
     start: &mut [u16],
     occ: &mut [u16],
     tail: &mut [u16],
@@ -57,12 +57,12 @@ fn evaluate_in(
     out: &mut [u8],
 )
     requires { ⌜ WellFormed (now job) ⌝ }
-    requires { ⌜ Unused (now job) (now known) (now start) (now occ) (now tail) (now need) (now fail) (now k) (now u) (now queue) (now list) ⌝ }
+    requires { ⌜ Unused (now job) (now start) (now occ) (now tail) (now need) (now fail) (now k) (now u) (now queue) (now list) ⌝ }
     requires { ⌜ claims (now job) ≤ length (now out) ⌝ }
-    ensures { λ r. ⌜ now (out .exit) ≡ knownOutput (now (job .entry)) (now (known .entry)) (now (out .entry)) ⌝ }
+    ensures { λ r. ⌜ now (out .exit) ≡ outputOf Accepted (now (job .entry)) (now (out .entry)) ⌝ }
 {
-    occurrences::prepare(job, known, start, occ, tail, need, fail);
-    alternate::alternate(job, known, start, occ, tail, need, fail, k, u, queue, list);
+    occurrences::prepare(job, start, occ, tail, need, fail);
+    alternate::alternate(job, start, occ, tail, need, fail, k, u, queue, list);
     verdicts::write(k, u, out);
 }
 
@@ -92,10 +92,10 @@ fn tiny_claims() -> [u8; TINY_CLAIMS]
 }
 
 // The evaluation of a job with at most 16 claims, 24 rules and 64 literals.
-fn evaluate_tiny(job: &[u8], known: &[u8], out: &mut [u8])
+fn evaluate_tiny(job: &[u8], out: &mut [u8])
     requires { ⌜ WellFormed (now job) ⌝ }
-    requires { ⌜ (Within (now job) 16 24 64) × (length (now known) ≤ claims (now job)) × (claims (now job) ≤ length (now out)) ⌝ }
-    ensures { λ r. ⌜ now (out .exit) ≡ knownOutput (now (job .entry)) (now (known .entry)) (now (out .entry)) ⌝ }
+    requires { ⌜ (Within (now job) 16 24 64) × (claims (now job) ≤ length (now out)) ⌝ }
+    ensures { λ r. ⌜ now (out .exit) ≡ outputOf Accepted (now (job .entry)) (now (out .entry)) ⌝ }
 {
     let n = format::claim_count(job);
     let mut start = tiny_keys();
@@ -109,7 +109,6 @@ fn evaluate_tiny(job: &[u8], known: &[u8], out: &mut [u8])
     let mut list = tiny_keys();
     evaluate_in(
         job,
-        known,
         &mut start[..],
         &mut occ[..],
         &mut tail[..],
@@ -149,10 +148,10 @@ fn middle_claims() -> [u8; MIDDLE_CLAIMS]
 }
 
 // The evaluation of a job with at most 1,024 claims, 1,536 rules and 4,096 literals.
-fn evaluate_middle(job: &[u8], known: &[u8], out: &mut [u8])
+fn evaluate_middle(job: &[u8], out: &mut [u8])
     requires { ⌜ WellFormed (now job) ⌝ }
-    requires { ⌜ (Within (now job) 1024 1536 4096) × (length (now known) ≤ claims (now job)) × (claims (now job) ≤ length (now out)) ⌝ }
-    ensures { λ r. ⌜ now (out .exit) ≡ knownOutput (now (job .entry)) (now (known .entry)) (now (out .entry)) ⌝ }
+    requires { ⌜ (Within (now job) 1024 1536 4096) × (claims (now job) ≤ length (now out)) ⌝ }
+    ensures { λ r. ⌜ now (out .exit) ≡ outputOf Accepted (now (job .entry)) (now (out .entry)) ⌝ }
 {
     let n = format::claim_count(job);
     let mut start = middle_keys();
@@ -166,7 +165,6 @@ fn evaluate_middle(job: &[u8], known: &[u8], out: &mut [u8])
     let mut list = middle_keys();
     evaluate_in(
         job,
-        known,
         &mut start[..],
         &mut occ[..],
         &mut tail[..],
@@ -206,10 +204,10 @@ fn large_claims() -> [u8; LARGE_CLAIMS]
 }
 
 // The evaluation of every job.
-fn evaluate_large(job: &[u8], known: &[u8], out: &mut [u8])
+fn evaluate_large(job: &[u8], out: &mut [u8])
     requires { ⌜ WellFormed (now job) ⌝ }
-    requires { ⌜ (Within (now job) mostClaims mostRules mostLiterals) × (length (now known) ≤ claims (now job)) × (claims (now job) ≤ length (now out)) ⌝ }
-    ensures { λ r. ⌜ now (out .exit) ≡ knownOutput (now (job .entry)) (now (known .entry)) (now (out .entry)) ⌝ }
+    requires { ⌜ (Within (now job) mostClaims mostRules mostLiterals) × (claims (now job) ≤ length (now out)) ⌝ }
+    ensures { λ r. ⌜ now (out .exit) ≡ outputOf Accepted (now (job .entry)) (now (out .entry)) ⌝ }
 {
     let n = format::claim_count(job);
     let mut start = large_keys();
@@ -223,7 +221,6 @@ fn evaluate_large(job: &[u8], known: &[u8], out: &mut [u8])
     let mut list = large_keys();
     evaluate_in(
         job,
-        known,
         &mut start[..],
         &mut occ[..],
         &mut tail[..],
@@ -252,36 +249,36 @@ fn fits(job: &[u8], claims: usize, rules: usize, literals: usize) -> bool
 }
 
 // The evaluation of a job that is not tiny.
-fn evaluate_wide(job: &[u8], known: &[u8], out: &mut [u8])
+fn evaluate_wide(job: &[u8], out: &mut [u8])
     requires { ⌜ WellFormed (now job) ⌝ }
-    requires { ⌜ (length (now known) ≤ claims (now job)) × (claims (now job) ≤ length (now out)) ⌝ }
-    ensures { λ r. ⌜ now (out .exit) ≡ knownOutput (now (job .entry)) (now (known .entry)) (now (out .entry)) ⌝ }
+    requires { ⌜ claims (now job) ≤ length (now out) ⌝ }
+    ensures { λ r. ⌜ now (out .exit) ≡ outputOf Accepted (now (job .entry)) (now (out .entry)) ⌝ }
 {
     if fits(job, MIDDLE_CLAIMS, MIDDLE_RULES, MIDDLE_POSITIONS) {
-        evaluate_middle(job, known, out);
+        evaluate_middle(job, out);
     } else {
-        evaluate_large(job, known, out);
+        evaluate_large(job, out);
     }
 }
 
 // The evaluation. What is not tiny is left to one function, called from several places: then the compiler gives it a frame of its own,
 // and a tiny job doesn't touch the pages of a large one.
-pub fn evaluate_given(job: &[u8], known: &[u8], out: &mut [u8])
+pub fn evaluate(job: &[u8], out: &mut [u8])
     requires { ⌜ WellFormed (now job) ⌝ }
-    requires { ⌜ (length (now known) ≤ claims (now job)) × (claims (now job) ≤ length (now out)) ⌝ }
-    ensures { λ r. ⌜ now (out .exit) ≡ knownOutput (now (job .entry)) (now (known .entry)) (now (out .entry)) ⌝ }
+    requires { ⌜ claims (now job) ≤ length (now out) ⌝ }
+    ensures { λ r. ⌜ now (out .exit) ≡ outputOf Accepted (now (job .entry)) (now (out .entry)) ⌝ }
 {
     if TINY_CLAIMS < format::claim_count(job) {
-        evaluate_wide(job, known, out);
+        evaluate_wide(job, out);
         return;
     }
     if TINY_RULES < format::rule_count(job) {
-        evaluate_wide(job, known, out);
+        evaluate_wide(job, out);
         return;
     }
     if TINY_POSITIONS < format::literal_count(job) {
-        evaluate_wide(job, known, out);
+        evaluate_wide(job, out);
         return;
     }
-    evaluate_tiny(job, known, out);
+    evaluate_tiny(job, out);
 }

@@ -5,9 +5,13 @@ ghost use lib.ListN.{length};
 ghost use Rattle.base.specs.Sets.{setOf};
 ghost use Rattle.model.specs.Output.{judgedByte, judgedOutput};
 use base::byte_sets;
-use counters::FALSE;
-use counters::TRUE;
-use counters::UNDEFINED;
+
+// The bytes of verdicts (semantics/specs/Model: byteOf).
+const TRUE: u8 = 1;
+
+const FALSE: u8 = 2;
+
+const UNDEFINED: u8 = 3;
 
 // The byte of claim c's verdict, by K and U.
 fn byte_of(k: &[u8], u: &[u8], c: usize) -> u8

@@ -16,5 +16,7 @@ pub mod Same
 pub mod Rings
 pub mod Leads
 pub mod Undefined
+pub mod Relevance
+pub mod RelevanceCovered
 pub mod Textbook
 pub mod Fields

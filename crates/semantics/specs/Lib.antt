@@ -4,5 +4,6 @@ pub mod Theorems
 pub mod Missing
 pub mod Unfounded
 pub mod Leads
+pub mod Relevance
 pub mod Textbook
 pub mod Fields

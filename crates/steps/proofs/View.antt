@@ -22,7 +22,8 @@ use Rattle.waiting.specs.State.{State}
 use Rattle.waiting.specs.Steps.{Stays, Left, ago, now, Passes, Skips, Faded, leads, behind, Fades, Claims, Opens, Awaits, Workers}
 use Rattle.turn.specs.Turn.{lits, litAt}
 use Rattle.turn.proofs.Jobs.{JobOk}
-use Rattle.turn.proofs.Behind.{Alike, alike-back, failed-done, failed-same, claim-lit, Behind, behind?, behind-rest, behind-kept, behind-alike}
+use Rattle.table.proofs.Failing.{failed-done}
+use Rattle.turn.proofs.Behind.{Alike, alike-back, failed-same, claim-lit, Behind, behind?, behind-rest, behind-kept, behind-alike}
 
 pub low : ℕ → ℕ → ℕ → ℕ
 low n i v = pick (ltb i n) v 0

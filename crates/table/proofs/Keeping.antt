@@ -16,7 +16,7 @@ use native.Mathlib.Decide.{ℕ-discrete}
 use lib.ListN.{length, getD, set, length-set}
 use lib.Seq.{getD-set-same, getD-set-other, set-getD, set-set, set-comm}
 use Rattle.job.specs.Job.{Job}
-use Rattle.table.specs.Layout.{markWord, cursorWord, numberWord, mark, cursor, number, workersFrom, awaitedAt, answeredAt, newestAt, answersFrom, awaited, answered, kept}
+use Rattle.table.specs.Layout.{markWord, cursorWord, numberWord, mark, cursor, number, workersFrom, awaitedAt, answeredAt, newestAt, answersFrom}
 use Rattle.table.specs.Newest.{sought, withNewest, NewestKept}
 use Rattle.table.proofs.NewestOf.{newest-like, sought-of, sought-is}
 

@@ -1,4 +1,5 @@
 pub mod Each
+pub mod Fitting
 pub mod Sizes
 pub mod Asked
 pub mod QuestionPlaces
@@ -10,3 +11,4 @@ pub mod Searching
 pub mod NewestOf
 pub mod Keeping
 pub mod SearchAll
+pub mod Failing

@@ -80,7 +80,7 @@ module _ (j : Job) (t : List ℕ) where
         numberMost = n .2;
       }
 
-  in-claim : (c : ℕ) → ClaimInRange j t c → Accepted ≡ checkClaim j t c
+  pub in-claim : (c : ℕ) → ClaimInRange j t c → Accepted ≡ checkClaim j t c
   unfolding checkClaim
   in-claim c r =
       pass _ _ _ _ (in-mark (mark t c) (j .workers) (r .markIn))

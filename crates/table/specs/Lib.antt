@@ -1,5 +1,6 @@
 pub mod Questions
 pub mod Layout
+pub mod Literals
 pub mod Newest
 pub mod Ranges
 pub mod Start

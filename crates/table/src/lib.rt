@@ -1,6 +1,7 @@
 // The words of a table: layout, the checks of its length and words (rows 9 and 10), starting, stores, reading a claim, and each worker's newest
 // claim; and each worker's questions. The contracts cite specs/: Layout, Ranges, Start, Reading, Newest, Questions.
 pub mod checks;
+pub mod literals;
 pub mod newest;
 pub mod questions;
 pub mod start;

@@ -17,20 +17,13 @@ use Rattle.base.proofs.Lists.{in-upto, upto-in, every-in, in-every}
 use Rattle.job.specs.Job.{Job, claimOf, literalsOf, ruleEnd}
 use Rattle.job.proofs.RuleEnds.{end-same}
 use Rattle.job.specs.declared.Literal.{Literal}
-use Rattle.job.specs.declared.Literal.the-variants.{Plain, Negated}
+use Rattle.job.specs.declared.Literal.the-variants.{Plain}
 use Rattle.table.specs.Layout as W
-use Rattle.turn.specs.Turn.{lits, litAt, failingMark, failed, clear}
+use Rattle.turn.specs.Turn.{lits, litAt, clear}
+use Rattle.table.specs.Literals.{failingMark, failed}
+use Rattle.table.proofs.Failing.{failed-done}
 use Rattle.turn.proofs.Tests.{is-eq}
 use Rattle.turn.proofs.Jobs.{JobOk}
-
-false-least : (l : Literal) → W.trueMark ≤ failingMark l
-false-least (Plain c) = omega arith
-false-least (Negated c) = omega arith
-
--- what is complete and false
-pub failed-done : (t : List ℕ) (l : Literal) → T (failed t l) → W.trueMark ≤ W.mark t (claimOf l)
-unfolding failed
-failed-done t l h = omega (arith, eqb→eq (W.mark t (claimOf l)) (failingMark l) h, false-least l)
 
 pub failed-same : (t t′ : List ℕ) (l : Literal) → W.mark t′ (claimOf l) ≡ W.mark t (claimOf l) → T (failed t l) → T (failed t′ l)
 unfolding failed

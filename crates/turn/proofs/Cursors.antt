@@ -29,7 +29,7 @@ use Rattle.job.specs.Accepted.{WellFormed}
 use Rattle.job.specs.Claims.{claimStart, Index, moved}
 use Rattle.job.specs.declared.Cursor.{Cursor}
 use Rattle.job.proofs.Contiguous.{claim-literals}
-use Rattle.table.specs.Layout.{opened, markWord, cursorWord, numberWord, mark, cursor, number, awaitedWord, awaited, newestWord, kept, answerWord, fresh, answeredAt, awaitedAt, newestAt, openedWord, trueMark, undefinedMark, workersFrom}
+use Rattle.table.specs.Layout.{owned, opened, markWord, cursorWord, numberWord, mark, cursor, number, awaitedWord, awaited, newestWord, kept, answerWord, fresh, answeredAt, awaitedAt, newestAt, openedWord, trueMark, undefinedMark, workersFrom}
 use Rattle.table.specs.Newest.{newer, withNewest, NewestKept}
 use Rattle.table.specs.Ranges.{marked, ClaimInRange, InRange}
 use Rattle.table.proofs.Sizes.{sizes}
@@ -191,6 +191,9 @@ module _ {s t : List ℕ} {w c p b m : ℕ} {u : List ℕ} (g : Passing s t w c 
     -- the owner of an open one is a worker
     pub moved-owner : (m ≡ 0 → ⊥) → m < trueMark → m - 1 < workers s
     moved-owner n h = let k = g .read in omega (arith, open-owner s t r b (g .low) (omega arith))
+
+  pub moved-own : owned u w c ≡ true
+  moved-own = eq-eqb (mark u c) (w + 1) (marks c ∙ g .own)
 
   pub moved-kept : NewestKept (jobOf s) t → NewestKept (jobOf s) u
   moved-kept k = subst⁻¹ (NewestKept (jobOf s)) (g .stored) (cursor-kept k c (p + 1) (omega (arith, sizes s .claims-are, g .claim)))

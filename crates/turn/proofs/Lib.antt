@@ -1,6 +1,8 @@
 pub mod Worked
+pub mod Members
 pub mod Sweeps
 pub mod Following
+pub mod Marked
 pub mod Marking
 pub mod PutQuestion
 pub mod WholeTurn
@@ -23,3 +25,13 @@ pub mod ThirdWords
 pub mod Cursors
 pub mod Skipping
 pub mod Completing
+pub mod KeptLaws
+pub mod KeptTables
+pub mod KeptTurns
+pub mod KeptMembers
+pub mod KeptPassing
+pub mod StandsAlone
+pub mod AtPlaces
+pub mod KeptWork
+pub mod PartMarks
+pub mod Rooms

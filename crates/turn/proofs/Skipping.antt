@@ -3,6 +3,7 @@
 --                    is found: found-none (the claim's first literal is reached), found-other (the rule's first), found-failed (a false one)
 --   pass-skipped     the turn where an earlier literal of the rule is complete and false: the cursor past the rule; skip-low   its place is small
 --   pass-clear       none is, where none was found
+--   skip-stored, skip-behind   what the turn stores, and why
 use Prim.Native.Nat.{ℕ, _+_, _-_, _≤_, _<_}
 use mathlib.Core.Path.{_≡_, sym, _∙_, ap, ap₂, subst, subst⁻¹}
 use mathlib.Core.Bool.{Bool, true, false, not}
@@ -13,7 +14,7 @@ use native.Mathlib.Decide.{decLt}
 use borrow.Author.Tests.{not-true, not-false}
 use lib.Dec.{T}
 use lib.ListN.{length, getD, set}
-use Rattle.base.proofs.Bools.{is-true, is-false}
+use Rattle.base.proofs.Bools.{is, is-true, is-false}
 use Rattle.base.proofs.Choose.{pick-false}
 use Rattle.job.specs.Job.{claimOf, ruleEnd, mostLiterals}
 use Rattle.job.specs.Format.{claims, rules, literals, literalByte, literalAt, jobOf}
@@ -26,14 +27,15 @@ use Rattle.job.proofs.IndexEnds.{end-here-in, end-next-in}
 use Rattle.table.specs.Layout.{markWord, cursorWord, cursor}
 use Rattle.table.specs.Newest.{NewestKept}
 use Rattle.table.proofs.Sizes.{sizes}
-use Rattle.turn.specs.Turn.{lits, litAt, failed, clear, passTurn, keeping}
+use Rattle.turn.specs.Turn.{lits, litAt, clear, passTurn, keeping}
+use Rattle.table.specs.Literals.{failed}
 use Rattle.turn.specs.Ready.{Ready, Made}
 use Rattle.turn.specs.declared.Kind.the-variants.{Passed}
 use Rattle.turn.proofs.Jobs.{lits-length}
 use Rattle.turn.proofs.Following.{room}
 use Rattle.turn.proofs.Making.{made-as, made-from, made-kept}
 use Rattle.turn.proofs.ThirdWords.{cursor-kept}
-use Rattle.turn.proofs.Behind.{Behind, clear-not, clear-of}
+use Rattle.turn.proofs.Behind.{Behind, clear-not, clear-of, behind-of}
 use Rattle.turn.proofs.Walk.{lit-is, end-is}
 
 -- of c's first n literals, which start at `start`, those from `at` on are not false, and are of the rule of literal n
@@ -147,6 +149,9 @@ module _ (s index t : List ℕ) (r : Ready s index t) (w c : ℕ) (h : c < claim
   here-is : o ≡ not (clear (jobOf s) t c (cursor t c))
   here-is = q ∙ ap (λ (x : ℕ). not (clear (jobOf s) t c x)) e
 
+  pub skip-behind : o ≡ true → Behind (jobOf s) t c (cursor t c)
+  skip-behind g = behind-of (jobOf s) t c (cursor t c) (is _ (sym here-is ∙ g))
+
   pub pass-clear : o ≡ false → clear (jobOf s) t c (cursor t c) ≡ true
   pass-clear g = not-false _ (sym here-is ∙ g)
 
@@ -165,10 +170,14 @@ module _ (s index t : List ℕ) (r : Ready s index t) (w c : ℕ) (h : c < claim
         let a = r .indexed .starts c (omega arith) in
         (omega (arith, skip-at), omega (arith, skip-at, n .count, n .within, n .ordered, r .job .sized .literalsMost))
 
+    pub skip-stored : {y : List ℕ} → y ≡ set t (cursorWord c) (u .at - getD index c 0) → y ≡ set t (cursorWord c) (ruleEnd c (jobOf s .rules) (cursor t c))
+    skip-stored z =
+        let m : u .at - getD index c 0 ≡ ruleEnd c (jobOf s .rules) (cursor t c) = omega (arith, skip-at, r .indexed .starts c (omega arith)) in
+        z ∙ ap (set t (cursorWord c)) m
+
     pub pass-skipped : o ≡ true → {y : List ℕ} → y ≡ set t (cursorWord c) (u .at - getD index c 0) → Made (keeping (jobOf s) (passTurn (jobOf s) t w c)) Passed y
     unfolding passTurn
     pass-skipped d {y} z =
         let n : clear (jobOf s) t c (cursor t c) ≡ false = not-true _ (sym here-is ∙ d) in
-        let m : u .at - getD index c 0 ≡ ruleEnd c (jobOf s .rules) (cursor t c) = omega (arith, skip-at, r .indexed .starts c (omega arith)) in
-        let q : y ≡ set t (cursorWord c) (ruleEnd c (jobOf s .rules) (cursor t c)) = z ∙ ap (set t (cursorWord c)) m in
+        let q = skip-stored z in
         made-kept (jobOf s) (subst⁻¹ (NewestKept (jobOf s)) q (cursor-kept (r .newests) c _ (omega (arith, sizes s .claims-are)))) (made-from q (made-as _ _ (pick-false _ _ _ n)))

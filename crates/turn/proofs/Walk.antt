@@ -5,15 +5,15 @@
 --   met-in, in-met   whose claims are met: of literals that stand behind none
 --   failed-is, failed-low, onward-yes, onward-no   by the tests that the code makes
 use Prim.Native.Nat.{ℕ, zero, suc, _+_, _-_, _≤_, _<_}
-use mathlib.Core.Path.{_≡_, refl, sym, _∙_, ap, ap₂, subst}
+use mathlib.Core.Path.{_≡_, refl, sym, _∙_, ap, subst}
 use mathlib.Core.Logic.{by-cases}
 use mathlib.Core.List.{List, [], _∷_}
 use mathlib.Core.Bool.{Bool, true, false}
 use native.Mathlib.Omega.{arith}
 use native.Mathlib.Decide.{ℕ-discrete, decLt}
-use lib.Dec.{T, eqb, leb, leb→le, le→leb}
+use lib.Dec.{T, leb, leb→le, le→leb}
 use lib.ListN.{length, getD}
-use Rattle.base.proofs.Bools.{is, is-not, same}
+use Rattle.base.proofs.Bools.{is, is-not}
 use Rattle.base.proofs.Choose.{t?, pick-elim, pick-yes, pick-no}
 use Rattle.base.proofs.Lists.{In, in-head, in-tail, InCons, first, later, in-cases, in-nil}
 use Rattle.base.proofs.Span.{getD-span}
@@ -27,11 +27,11 @@ use Rattle.job.specs.declared.Cursor.{Cursor}
 use Rattle.job.proofs.Contiguous.{claim-literals}
 use Rattle.job.proofs.RuleEnds.{end-same, end-more}
 use Rattle.job.proofs.IndexEnds.{end-in}
-use Rattle.table.specs.Layout.{mark, trueMark}
-use Rattle.turn.specs.Turn.{lits, litAt, failingMark, failed}
+use Rattle.turn.specs.Turn.{lits, litAt}
+use Rattle.table.specs.Literals.{failed}
 use Rattle.turn.specs.Gather.{onward, metFrom, met}
 use Rattle.turn.proofs.Jobs.{lits-length}
-use Rattle.turn.proofs.Behind.{failed-done, claim-lit, Behind}
+use Rattle.turn.proofs.Behind.{claim-lit, Behind}
 
 -- one step
 module _ (index t : List ℕ) (l : Literal) (c : Cursor) where
@@ -216,14 +216,6 @@ module _ (s index t : List ℕ) (w : WellFormed s) (x : Index s index) (c : ℕ)
       (λ d. on (i + 1) (omega arith) (omega (arith, q .from, m)) (over-one i p low d)))))
 
 -- by the tests that the code makes
-pub failed-is : (t : List ℕ) (l : Literal) {b m f : ℕ} → b ≡ claimOf l → m ≡ mark t b → f ≡ failingMark l → eqb m f ≡ failed t l
-unfolding failed
-failed-is t l e q r = ap₂ eqb (q ∙ ap (mark t) e) r
-
--- a claim that isn't complete makes no literal false
-pub failed-low : (t : List ℕ) (l : Literal) {b m : ℕ} → b ≡ claimOf l → m ≡ mark t b → m < trueMark → false ≡ failed t l
-failed-low t l e q h = same false (failed t l) (λ z. absurd z) (λ z. absurd (omega (arith, failed-done t l z, ap (mark t) e)))
-
 module _ (index t : List ℕ) (l : Literal) (c : Cursor) {r : Bool} (e : r ≡ failed t l) {d : Cursor} where
   pub onward-yes : r ≡ true → d ≡ pastRule index c → d ≡ onward index t l c
   onward-yes h q = q ∙ sym (onward-failed index t l c (is _ (sym e ∙ h)))

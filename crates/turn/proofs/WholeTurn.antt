@@ -1,5 +1,5 @@
 -- The whole turn from its bullets, by what the code read. Assumes nothing.
-use Prim.Native.Nat.{ℕ, _-_, _<_, _≤_}
+use Prim.Native.Nat.{ℕ, _+_, _-_, _<_, _≤_}
 use mathlib.Core.Path.{_≡_, refl, sym, _∙_, ap, subst⁻¹}
 use mathlib.Core.Bool.{false}
 use mathlib.Core.List.{List}
@@ -59,3 +59,10 @@ module _ (s t : List ℕ) (w : ℕ) (K : NewestKept (jobOf s) t) {a : ℕ} (awai
     works d m =
         by-part (jobOf s) t w
         (pick-true _ _ _ (eq-eqb _ _ (sym awaits ∙ free)) ∙ (pick-false _ _ _ (ne-eqb _ _ (λ e. d (sym newest-of ∙ e))) ∙ ap (λ (x : ℕ). workTurn (jobOf s) t w (x - 1)) newest-of)) m
+
+-- the claim that the third word names is what a search finds
+pub newest-sought : (s t : List ℕ) (w : ℕ) → NewestKept (jobOf s) t → w < workers s → {n : ℕ} → n ≡ kept (jobOf s) t w → (n ≡ 0 → ⊥) → n - 1 + 1 ≡ sought (claims s) t w
+newest-sought s t w K small {n} e d =
+    let h : n ≡ sought (jobOf s .claims) t w = e ∙ K .is w (omega (arith, sizes s .workers-are)) in
+    let z : n - 1 + 1 ≡ n = omega arith in
+    z ∙ (h ∙ ap (λ (a : ℕ). sought a t w) (sizes s .claims-are))

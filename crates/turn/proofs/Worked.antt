@@ -13,7 +13,8 @@ use Rattle.table.specs.Questions.{positionsOf, askedBy, claimAsked, questionCla
 use Rattle.table.specs.Layout.{header, values}
 use Rattle.table.specs.Newest.{isNewer, newer, newest, withNewest}
 use Rattle.table.specs.Start.{startWords}
-use Rattle.turn.specs.Turn.{lits, litAt, failed, clear, leads, anyLeads, spread, spreads, reached, allPassed, completedMark, openClaim, markAll, meets, askTurn, passTurn, workTurn, baseTurn, turn, runTable, runKinds}
+use Rattle.turn.specs.Turn.{lits, litAt, clear, leads, anyLeads, spread, spreads, reached, allPassed, completedMark, openClaim, markAll, meets, askTurn, passTurn, workTurn, baseTurn, turn, runTable, runKinds}
+use Rattle.table.specs.Literals.{failed}
 use Rattle.turn.specs.Worked.{TurnsRight}
 
 pub turnsRight : TurnsRight

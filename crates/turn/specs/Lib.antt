@@ -1,4 +1,5 @@
 pub mod Turn
 pub mod Gather
 pub mod Ready
+pub mod KeptSet
 pub mod Worked

@@ -1,7 +1,6 @@
--- What the functions below the calls are lent once the checks have passed, and how they hold sets of claims.
+-- What the functions below the calls are lent once the checks have passed.
 --   Ready s index t      an accepted job s, its index of claims, and a table t in range, with right third words
 --   passedIn index t c   c has passed all its literals, by the index: its cursor is at the end
---   members seen         the claims of a set held as a byte a claim, in rising order
 --   Made r kind t        a turn was made as the definition r says: its kind, and the table at exit
 --   Renewed j w t u      the table u is t with w's third word as a search finds it
 use Prim.Native.Nat.{ℕ, _+_}
@@ -9,13 +8,11 @@ use mathlib.Core.Bool.{Bool}
 use mathlib.Core.List.{List}
 use mathlib.Core.Path.{_≡_}
 use lib.Dec.{leb}
-use lib.ListN.{length, getD, set}
-use Rattle.base.specs.Lists.{upto, keep}
+use lib.ListN.{getD, set}
 use Rattle.job.specs.Job.{Job}
 use Rattle.job.specs.Format.{jobOf}
 use Rattle.job.specs.Accepted.{WellFormed}
 use Rattle.job.specs.Claims.{Index}
-use Rattle.base.specs.Sets.{setOf}
 use Rattle.table.specs.Layout.{cursor, newestWord}
 use Rattle.table.specs.Newest.{sought, NewestKept}
 use Rattle.table.specs.Ranges.{InRange}
@@ -37,6 +34,3 @@ pub record Renewed (j : Job) (w : ℕ) (t u : List ℕ) : Type 0 where
 
 abbrev pub passedIn : List ℕ → List ℕ → ℕ → Bool
 passedIn index t c = leb (getD index (c + 1) 0) (getD index c 0 + cursor t c)
-
-unfoldable pub members : List ℕ → List ℕ
-members seen = keep (setOf seen) (upto (length seen))

@@ -3,7 +3,6 @@
 --   kindNumber k      01's number of a kind
 --   lits j c          the claims of c's literals, over its rules in file order
 --   litAt j c k       c's literal k, from 0
---   failingMark l       the mark of its claim that makes literal l false; failed t l   literal l is complete and false
 --   clear j t c k     no literal before c's literal k, of its rule, is complete and false (such a one makes the rule's body false)
 --   skipEnd j t c     where the rule of c's next literal ends among c's literals
 --   leading j t c k   c has passed its literal k, and it stands behind no false one
@@ -27,11 +26,12 @@ use Rattle.base.specs.Choose.{pick}
 use Rattle.base.specs.Lists.{upto, keep, every, isIn}
 use Rattle.job.specs.Job.{Job, claimOf, literalsOf, ruleEnd}
 use Rattle.job.specs.declared.Literal.{Literal}
-use Rattle.job.specs.declared.Literal.the-variants.{Plain, Negated}
+use Rattle.job.specs.declared.Literal.the-variants.{Plain}
 use Rattle.semantics.specs.Model.{programOf, verdict, exchange, knownOf}
 use Rattle.table.specs.Questions.{askedBy, questionClaim}
 use Rattle.table.specs.Newest.{newest, sought, withNewest}
-use Rattle.table.specs.Layout.{openedWord, opened, markWord, cursorWord, numberWord, mark, cursor, awaitedWord, answeredWord, awaited, answered, answerWord, fresh, owned, complete, valueOf, markOf, values, falseMark, trueMark}
+use Rattle.table.specs.Layout.{openedWord, opened, markWord, cursorWord, numberWord, mark, cursor, awaitedWord, answeredWord, awaited, answered, answerWord, fresh, owned, complete, valueOf, markOf, values, trueMark}
+use Rattle.table.specs.Literals.{failed}
 use Rattle.turn.specs.declared.Kind.{Kind}
 use Rattle.turn.specs.declared.Kind.the-variants.{Idle, Woke, Opened, Waits, Took, Passed, Completed, Answered}
 
@@ -55,14 +55,6 @@ lits j c = map claimOf (literalsOf c (j .rules))
 
 unfoldable pub litAt : Job → ℕ → ℕ → Literal
 litAt j c k = getD (literalsOf c (j .rules)) k (Plain 0)
-
--- a plain literal is false where its claim is false, a negated one where it is true
-abbrev pub failingMark : Literal → ℕ
-failingMark (Plain c) = falseMark
-failingMark (Negated c) = trueMark
-
-unfoldable pub failed : List ℕ → Literal → Bool
-failed t l = eqb (mark t (claimOf l)) (failingMark l)
 
 -- (02, order 5) "an earlier literal of that rule is complete and false"
 unfoldable pub clear : Job → List ℕ → ℕ → ℕ → Bool

@@ -6,7 +6,7 @@ ghost use lib.ListN.{length};
 ghost use Rattle.job.specs.Job.{claimOf, mostLiterals};
 ghost use Rattle.job.specs.Format.{claims as claimsOf, jobOf};
 ghost use Rattle.table.specs.Layout.{markWord};
-ghost use Rattle.turn.specs.Turn.{lits, failingMark, failed as failedIn, clear};
+ghost use Rattle.turn.specs.Turn.{lits, clear};
 ghost use Rattle.turn.specs.Ready.{Ready};
 ghost use Rattle.turn.specs.Gather.{onward};
 use job::ClaimIndex;
@@ -14,36 +14,14 @@ use job::Cursor;
 use job::Literal;
 use job::claims;
 use job::format;
-use table::words;
-
-// The mark of its claim that makes a literal false.
-fn failing_mark(literal: Literal) -> usize
-    ensures { λ r. ⌜ r ≡ failingMark literal ⌝ }
-{
-    match literal {
-        Literal::Plain(claim) => words::FALSE_MARK,
-        Literal::Negated(claim) => words::TRUE_MARK,
-    }
-}
-
-// Whether a literal is complete and false. Most claims that a gathering meets are open, so that is asked first.
-fn failed(table: &[u32], literal: Literal) -> bool
-    requires { ⌜ markWord (claimOf literal) < length (now table) ⌝ }
-    ensures { λ r. ⌜ r ≡ failedIn (now (table .entry)) literal ⌝ }
-{
-    let mark = words::mark_at(table, format::claim_of(literal));
-    if mark < words::TRUE_MARK {
-        return false;
-    }
-    mark == failing_mark(literal)
-}
+use table::literals;
 
 // The cursor past this literal, its current one, or past its rule where the literal is complete and false: what stands behind leads nowhere.
 pub fn moved_on(index: &ClaimIndex, table: &[u32], literal: Literal, cursor: Cursor) -> Cursor
     requires { ⌜ (markWord (claimOf literal) < length (now table)) × (cursor .at < cursor .end) × (cursor .end ≤ mostLiterals) ⌝ }
     ensures { λ r. ⌜ r ≡ onward (now (index .entry)) (now (table .entry)) literal cursor ⌝ }
 {
-    if failed(table, literal) {
+    if literals::failed(table, literal) {
         return cursor.past_rule(index);
     }
     cursor.advanced()
@@ -64,7 +42,7 @@ pub fn rule_failed(job: &[u8], index: &ClaimIndex, table: &[u32], c: usize, pass
             return false;
         }
         at -= 1;
-        if failed(table, format::literal_at(job, rules, at)) {
+        if literals::failed(table, format::literal_at(job, rules, at)) {
             return true;
         }
     }

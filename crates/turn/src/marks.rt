@@ -1,18 +1,14 @@
-// The marks of claims: opening one, taking and completing the members of a set, and the values that they show. The contracts are equations
-// with specs/Turn.
+// The marks of claims: opening one, taking and completing the members of a set. The contracts cite specs/Turn and specs/KeptSet.
 ghost use mathlib.Core.Path.{_≡_};
-ghost use mathlib.Core.Bool.{not, _&&_};
+ghost use mathlib.Core.Bool.{not};
 ghost use Prim.Native.Nat.{ℕ, _+_, _≤_, _<_};
+ghost use lib.Dec.{T};
 ghost use lib.ListN.{length, getD, set};
-ghost use Rattle.base.specs.Lists.{keep};
-ghost use Rattle.base.specs.Span.{span};
-ghost use Rattle.base.specs.Sets.{setOf};
 ghost use Rattle.job.specs.Job.{mostClaims, mostWorkers};
-ghost use Rattle.table.specs.Layout.{workersFrom, newestAt, opened, mark, undefinedMark, fresh, valueOf, markOfValue};
+ghost use Rattle.table.specs.Layout.{workersFrom, newestAt, opened, fresh, markOfValue};
 ghost use Rattle.table.specs.Newest.{newer};
-ghost use Rattle.turn.specs.Turn.{openClaim, markAll};
-ghost use Rattle.turn.specs.Ready.{members};
-use base::byte_sets;
+ghost use Rattle.turn.specs.Turn.{openClaim};
+ghost use Rattle.turn.specs.KeptSet.{Member, Places, Marked};
 use base::wide;
 use table::newest;
 use table::stores;
@@ -42,56 +38,26 @@ pub fn open_newest(table: &mut [u32], claims: usize, w: usize, c: usize)
     stores::set_newest(table, claims, w, found);
 }
 
-// Whether claim c is in the set and not fresh.
-fn to_take(seen: &[u8], table: &[u32], c: usize) -> bool
-    requires { ⌜ (c < mostClaims) × (workersFrom (c + 1) ≤ length (now table)) ⌝ }
-    ensures { λ r. ⌜ r ≡ (setOf (now (seen .entry)) c && not (fresh (now (table .entry)) c)) ⌝ }
+// Every one of `count` members that is not fresh becomes w's.
+pub fn take_members(members: &[u16], count: usize, table: &mut [u32], w: usize)
+    requires { ⌜ Places (now table) (now members) count × (w < mostWorkers) ⌝ }
+    ensures { λ r. ⌜ Marked (λ (d : ℕ). w + 1) (λ (d : ℕ). Member (now (members .entry)) count d × T (not (fresh (now (table .entry)) d))) (now (table .entry)) (now (table .exit)) ⌝ }
 {
-    if !byte_sets::member(seen, c) {
-        return false;
-    }
-    words::mark_at(table, c) != 0
-}
-
-// Every claim of the set that is not fresh becomes w's.
-pub fn take_members(seen: &[u8], table: &mut [u32], w: usize)
-    requires { ⌜ (length (now seen) ≤ mostClaims) × (workersFrom (length (now seen)) ≤ length (now table)) × (w < mostWorkers) ⌝ }
-    ensures { λ r. ⌜ now (table .exit) ≡ markAll (λ (d : ℕ). w + 1) (keep (λ (d : ℕ). not (fresh (now (table .entry)) d)) (members (now (seen .entry)))) (now (table .entry)) ⌝ }
-{
-    for c in 0..seen.len() {
-        if to_take(seen, table, c) {
+    for i in 0..count {
+        let c = wide::half(members[i]);
+        if words::mark_at(table, c) != 0 {
             stores::set_mark(table, c, w + 1);
         }
     }
 }
 
-// Every claim of the set becomes complete, with the value given for it.
-pub fn complete_members(seen: &[u8], values: &[u8], table: &mut [u32])
-    requires { ⌜ (length (now seen) ≤ length (now values)) × (length (now seen) ≤ mostClaims) × (workersFrom (length (now seen)) ≤ length (now table)) ⌝ }
-    ensures { λ r. ⌜ now (table .exit) ≡ markAll (λ (d : ℕ). markOfValue (getD (now (values .entry)) d 0)) (members (now (seen .entry))) (now (table .entry)) ⌝ }
+// Every member becomes complete, with the value given for it.
+pub fn complete_members(members: &[u16], values: &[u8], table: &mut [u32])
+    requires { ⌜ Places (now table) (now members) (length (now members)) × (length (now values) ≡ length (now members)) ⌝ }
+    ensures { λ r. ⌜ ((f : ℕ → ℕ) → ((i : ℕ) → i < length (now (members .entry)) → f (getD (now (members .entry)) i 0) ≡ markOfValue (getD (now (values .entry)) i 0)) → Marked f (Member (now (members .entry)) (length (now (members .entry)))) (now (table .entry)) (now (table .exit))) ⌝ }
 {
-    for c in 0..seen.len() {
-        if byte_sets::member(seen, c) {
-            stores::set_mark(table, c, words::mark_of_value(wide::byte(values[c])));
-        }
-    }
-}
-
-// The value that a mark shows, or 0.
-fn value_of(mark: usize) -> u8
-    requires { ⌜ mark ≤ undefinedMark ⌝ }
-    ensures { λ r. ⌜ r ≡ valueOf mark ⌝ }
-{
-    words::value_of(mark) as u8
-}
-
-// The value of each claim that is complete, and 0 for the others.
-pub fn read_values(table: &[u32], known: &mut [u8])
-    requires { ⌜ (length (now known) ≤ mostClaims) × (workersFrom (length (now known)) ≤ length (now table)) ⌝ }
-    requires { ⌜ ((c : ℕ) → c < length (now known) → mark (now table) c ≤ undefinedMark) ⌝ }
-    ensures { λ r. ⌜ now (known .exit) ≡ span (λ (c : ℕ). valueOf (mark (now (table .entry)) c)) 0 (length (now (known .entry))) ⌝ }
-{
-    for c in 0..known.len() {
-        known[c] = value_of(words::mark_at(table, c));
+    for i in 0..members.len() {
+        let value = wide::byte(values[i]);
+        stores::set_mark(table, wide::half(members[i]), words::mark_of_value(value));
     }
 }

@@ -1,16 +1,16 @@
-// The members of a set that are one worker's: the newest with a literal left, and whether all have passed theirs. The contracts cite `newest` of
-// the table's specs.
+// What is left to pass: whether a claim has passed all its literals, and of the members of a set the newest that hasn't. The contracts cite specs/Ready and
+// specs/KeptSet.
 ghost use mathlib.Core.Path.{_≡_};
-ghost use mathlib.Core.Bool.{not, _&&_};
 ghost use Prim.Native.Nat.{ℕ, _+_, _≤_, _<_};
+ghost use lib.Dec.{T};
 ghost use lib.ListN.{length};
-ghost use Rattle.base.specs.Lists.{keep, every};
-ghost use Rattle.base.specs.Sets.{setOf};
 ghost use Rattle.job.specs.Job.{mostClaims, mostWorkers};
-ghost use Rattle.table.specs.Layout.{workersFrom, owned};
-ghost use Rattle.table.specs.Newest.{newest};
-ghost use Rattle.turn.specs.Ready.{passedIn, members};
-use base::byte_sets;
+ghost use Rattle.table.specs.Layout.{workersFrom};
+ghost use Rattle.table.specs.Newest.{NewestOf};
+ghost use Rattle.turn.specs.Ready.{passedIn};
+ghost use Rattle.turn.specs.KeptSet.{Member, free, FoundBy, Places, OwnsAll};
+use crate::Kept;
+use base::wide;
 use job::ClaimIndex;
 use job::Cursor;
 use table::newest::newer;
@@ -24,57 +24,55 @@ pub fn passed_all(index: &ClaimIndex, table: &[u32], c: usize) -> bool
     Cursor::over(index, c, words::cursor_at(table, c)).at_end()
 }
 
-// Whether claim c is in the set, is w's, and has a literal left.
-fn left_to_pass(index: &ClaimIndex, table: &[u32], seen: &[u8], w: usize, c: usize) -> bool
+// Whether claim c is w's and has a literal left.
+fn left_to_pass(index: &ClaimIndex, table: &[u32], w: usize, c: usize) -> bool
     requires { ⌜ (c < mostClaims) × (workersFrom (c + 1) ≤ length (now table)) × (w < mostWorkers) ⌝ }
-    ensures { λ r. ⌜ r ≡ (setOf (now (seen .entry)) c && (owned (now (table .entry)) w c && not (passedIn (now (index .entry)) (now (table .entry)) c))) ⌝ }
+    ensures { λ r. ⌜ r ≡ free (now (index .entry)) (now (table .entry)) w c ⌝ }
 {
-    if !byte_sets::member(seen, c) {
-        return false;
-    }
     if words::mark_at(table, c) != w + 1 {
         return false;
     }
     !passed_all(index, table, c)
 }
 
-// The newest claim of w in the set that has a literal left + 1, or 0 where there is none.
-pub fn newest_left(index: &ClaimIndex, table: &[u32], seen: &[u8], w: usize) -> usize
-    requires { ⌜ (length (now seen) ≤ mostClaims) × (workersFrom (length (now seen)) ≤ length (now table)) × (w < mostWorkers) ⌝ }
-    ensures { λ r. ⌜ (r ≡ newest (now (table .entry)) (keep (λ (d : ℕ). owned (now (table .entry)) w d && not (passedIn (now (index .entry)) (now (table .entry)) d)) (members (now (seen .entry))))) × (r ≤ length (now (seen .entry))) ⌝ }
+// The newest of `count` members that is w's and has a literal left + 1, or 0 where there is none.
+fn newest_left(index: &ClaimIndex, table: &[u32], members: &[u16], count: usize, w: usize) -> usize
+    requires { ⌜ Places (now table) (now members) count × (w < mostWorkers) ⌝ }
+    ensures { λ r. ⌜ NewestOf (now (table .entry)) (λ (d : ℕ). Member (now (members .entry)) count d × T (free (now (index .entry)) (now (table .entry)) w d)) r ⌝ }
 {
     let mut best: usize = 0;
-    let mut c = seen.len();
-    while 0 < c {
-        c -= 1;
-        if left_to_pass(index, table, seen, w, c) {
+    for i in 0..count {
+        let c = wide::half(members[i]);
+        if left_to_pass(index, table, w, c) {
             best = newer(table, c, best);
         }
     }
     best
 }
 
-// Whether claim c is w's and has passed all its literals.
-fn is_done(index: &ClaimIndex, table: &[u32], w: usize, c: usize) -> bool
-    requires { ⌜ (c < mostClaims) × (workersFrom (c + 1) ≤ length (now table)) × (w < mostWorkers) ⌝ }
-    ensures { λ r. ⌜ r ≡ (owned (now (table .entry)) w c && passedIn (now (index .entry)) (now (table .entry)) c) ⌝ }
+// The same, where the claim that was found last is it still: it is while it is w's and has a literal left.
+pub fn chosen(index: &ClaimIndex, table: &[u32], members: &[u16], kept: Kept, w: usize) -> usize
+    requires { ⌜ Places (now table) (now members) (kept .count) × (w < mostWorkers) × FoundBy (now index) (now table) kept (now members) ⌝ }
+    ensures { λ r. ⌜ NewestOf (now (table .entry)) (λ (d : ℕ). Member (now (members .entry)) (kept .count) d × T (free (now (index .entry)) (now (table .entry)) w d)) r ⌝ }
 {
-    if words::mark_at(table, c) != w + 1 {
-        return false;
+    let next = kept.next;
+    if 0 < next && kept.worker == w {
+        if left_to_pass(index, table, w, next - 1) {
+            return next;
+        }
     }
-    passed_all(index, table, c)
+    let count = kept.count;
+    newest_left(index, table, members, count, w)
 }
 
-// Whether every claim of the set is w's and has passed all its literals.
-pub fn all_done(index: &ClaimIndex, table: &[u32], seen: &[u8], w: usize) -> bool
-    requires { ⌜ (length (now seen) ≤ mostClaims) × (workersFrom (length (now seen)) ≤ length (now table)) × (w < mostWorkers) ⌝ }
-    ensures { λ r. ⌜ r ≡ every (λ (d : ℕ). owned (now (table .entry)) w d && passedIn (now (index .entry)) (now (table .entry)) d) (members (now (seen .entry))) ⌝ }
+// Whether `count` members are all w's.
+pub fn all_owned(table: &[u32], members: &[u16], count: usize, w: usize) -> bool
+    requires { ⌜ Places (now table) (now members) count × (w < mostWorkers) ⌝ }
+    ensures { λ r. ⌜ OwnsAll (now (table .entry)) w (now (members .entry)) count r ⌝ }
 {
-    for c in 0..seen.len() {
-        if byte_sets::member(seen, c) {
-            if !is_done(index, table, w, c) {
-                return false;
-            }
+    for i in 0..count {
+        if words::mark_at(table, wide::half(members[i])) != w + 1 {
+            return false;
         }
     }
     true

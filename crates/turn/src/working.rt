@@ -1,80 +1,101 @@
 // The third bullet of a turn: what is reached from w's newest claim becomes complete, or one claim of it moves on.
-// The contracts cite `workTurn` and `completedMark` of specs/Turn.
+// The contracts cite `workTurn` of specs/Turn, and specs/KeptSet.
 ghost use mathlib.Core.Path.{_≡_};
-ghost use Prim.Native.Nat.{_<_};
+ghost use Prim.Native.Nat.{_+_, _<_};
 ghost use lib.ListN.{length};
-ghost use Rattle.job.specs.Accepted.{WellFormed};
+ghost use Rattle.job.specs.Job.{mostClaims};
 ghost use Rattle.job.specs.Format.{claims, workers, jobOf};
-ghost use Rattle.table.specs.Ranges.{InRange};
-ghost use Rattle.turn.specs.Turn.{completedMark, markAll, keeping, workTurn};
-ghost use Rattle.turn.specs.Ready.{Ready, Made, Renewed, members};
+ghost use Rattle.parts.specs.Part.{Alone};
+ghost use Rattle.parts.specs.Written.{Lent};
+ghost use Rattle.table.specs.Newest.{sought};
+ghost use Rattle.turn.specs.Turn.{completedMark, keeping, workTurn};
+ghost use Rattle.turn.specs.Ready.{Ready};
+ghost use Rattle.turn.specs.KeptSet.{Member, Marked, Keeps, Completes, Done};
+use crate::Kept;
 use crate::Kind;
-use crate::gather;
+use crate::Taken;
 use crate::marks;
 use crate::passing;
 use crate::remaining;
 use job::ClaimIndex;
+use job::checks::MOST_CLAIMS;
 use job::format;
-use model::evaluate;
+use parts::evaluate;
 use table::newest;
 
-// Every claim of the set becomes complete, with room for the values before and after.
-fn complete_in(job: &[u8], table: &mut [u32], seen: &[u8], known: &mut [u8], values: &mut [u8])
-    requires { ⌜ WellFormed (now job) × InRange (jobOf (now job)) (now table) ⌝ }
-    requires { ⌜ (length (now seen) ≡ claims (now job)) × (length (now known) ≡ claims (now job)) × (length (now values) ≡ claims (now job)) ⌝ }
-    ensures { λ r. ⌜ now (table .exit) ≡ markAll (completedMark (jobOf (now (job .entry))) (now (table .entry))) (members (now (seen .entry))) (now (table .entry)) ⌝ }
+// Room for a byte a claim.
+fn no_bytes() -> [u8; MOST_CLAIMS]
+    ensures { λ r. ⌜ length r ≡ mostClaims ⌝ }
 {
-    marks::read_values(table, known);
-    evaluate::evaluate_known(job, known, values);
-    marks::complete_members(seen, values, table);
+    [0u8; MOST_CLAIMS]
 }
 
-// Every claim of the set becomes complete: its value is that of the model in which each claim complete before has its rules exchanged.
-// The newest claim of worker w, whose they were, is sought.
-fn complete(job: &[u8], table: &mut [u32], w: usize, seen: &[u8])
-    requires { ⌜ WellFormed (now job) × InRange (jobOf (now job)) (now table) ⌝ }
-    requires { ⌜ (length (now seen) ≡ claims (now job)) × (w < workers (now job)) ⌝ }
-    ensures { λ r. ⌜ Renewed (jobOf (now (job .entry))) w (markAll (completedMark (jobOf (now (job .entry))) (now (table .entry))) (members (now (seen .entry))) (now (table .entry))) (now (table .exit)) ⌝ }
+// Every member becomes complete, with room for their values: these are those of the part of the job that they make.
+fn complete_in(
+    job: &[u8],
+    index: &ClaimIndex,
+    table: &mut [u32],
+    place: &[u16],
+    members: &[u16],
+    values: &mut [u8],
+)
+    requires { ⌜ Lent (now job) (now index) (now table) (now place) (now members) × Alone (jobOf (now job)) (now table) (now place) ⌝ }
+    requires { ⌜ length (now values) ≡ length (now members) ⌝ }
+    ensures { λ r. ⌜ Marked (completedMark (jobOf (now (job .entry))) (now (table .entry))) (Member (now (members .entry)) (length (now (members .entry)))) (now (table .entry)) (now (table .exit)) ⌝ }
 {
-    let n = seen.len();
-    let mut known = passing::no_bytes();
-    let mut values = passing::no_bytes();
-    complete_in(job, table, seen, &mut known[..n], &mut values[..n]);
-    newest::seek_newest(table, n, w);
+    evaluate::evaluate_part(job, index, table, place, members, values);
+    marks::complete_members(members, values, table);
 }
 
-// The turn of a worker that owns claim n, with room for what is reached from n.
-fn work_in(
+// Every member becomes complete: its value is that of the model in which each claim complete before has its rules exchanged. The newest claim of
+// worker w, whose they were, is sought.
+fn complete(
+    job: &[u8],
+    index: &ClaimIndex,
+    table: &mut [u32],
+    w: usize,
+    place: &[u16],
+    members: &[u16],
+)
+    requires { ⌜ Lent (now job) (now index) (now table) (now place) (now members) × Alone (jobOf (now job)) (now table) (now place) ⌝ }
+    requires { ⌜ w < workers (now job) ⌝ }
+    ensures { λ r. ⌜ Completes (jobOf (now (job .entry))) (now (table .entry)) w (now (members .entry)) (now (table .exit)) ⌝ }
+{
+    let n = members.len();
+    let mut values = no_bytes();
+    complete_in(job, index, table, place, members, &mut values[..n]);
+    newest::seek_newest(table, format::claim_count(job), w);
+}
+
+// The turn of a worker whose newest open claim is n. Where n has a literal left, it is n that moves on, and nothing is gathered.
+pub fn work_turn(
     job: &[u8],
     index: &ClaimIndex,
     table: &mut [u32],
     w: usize,
     n: usize,
-    seen: &mut [u8],
-) -> Kind
+    was: Kept,
+    place: &mut [u16],
+    members: &mut [u16],
+) -> Taken
     requires { ⌜ Ready (now job) (now index) (now table) ⌝ }
-    requires { ⌜ (length (now seen) ≡ claims (now job)) × (n < claims (now job)) × (w < workers (now job)) ⌝ }
-    ensures { λ r. ⌜ Made (keeping (jobOf (now (job .entry))) (workTurn (jobOf (now (job .entry))) (now (table .entry)) w n)) r (now (table .exit)) ⌝ }
+    requires { ⌜ (n < claims (now job)) × (w < workers (now job)) × (n + 1 ≡ sought (claims (now job)) (now table) w) ⌝ }
+    requires { ⌜ Keeps (jobOf (now job)) (now table) was (now place) (now members) ⌝ }
+    ensures { λ r. ⌜ Done (jobOf (now (job .entry))) (keeping (jobOf (now (job .entry))) (workTurn (jobOf (now (job .entry))) (now (table .entry)) w n)) r (now (table .exit)) (now (place .exit)) (now (members .exit)) ⌝ }
 {
-    gather::gather(job, index, table, n, seen);
-    if remaining::all_done(index, table, seen, w) {
-        complete(job, table, w, seen);
-        return Kind::Completed;
+    if !remaining::passed_all(index, table, n) {
+        return passing::pass_turn(job, index, table, w, n, was, place, members);
     }
-    let left = remaining::newest_left(index, table, seen, w);
-    if left == 0 {
-        return Kind::Idle;
+    let kept = was.reaching(job, index, table, n, place, members);
+    let left = remaining::chosen(index, table, members, kept, w);
+    if left != 0 {
+        let next = kept.choosing(w, left);
+        return passing::pass_turn(job, index, table, w, left - 1, next, place, members);
     }
-    passing::pass_turn(job, index, table, w, left - 1)
-}
-
-// The turn of a worker whose newest open claim is n.
-pub fn work_turn(job: &[u8], index: &ClaimIndex, table: &mut [u32], w: usize, n: usize) -> Kind
-    requires { ⌜ Ready (now job) (now index) (now table) ⌝ }
-    requires { ⌜ (n < claims (now job)) × (w < workers (now job)) ⌝ }
-    ensures { λ r. ⌜ Made (keeping (jobOf (now (job .entry))) (workTurn (jobOf (now (job .entry))) (now (table .entry)) w n)) r (now (table .exit)) ⌝ }
-{
-    let claims = format::claim_count(job);
-    let mut seen = passing::no_bytes();
-    work_in(job, index, table, w, n, &mut seen[..claims])
+    let count = kept.count;
+    if remaining::all_owned(table, members, count, w) {
+        complete(job, index, table, w, place, &members[..count]);
+        return kept.dropped(place, members).after(Kind::Completed);
+    }
+    kept.after(Kind::Idle)
 }

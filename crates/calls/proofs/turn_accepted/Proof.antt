@@ -51,15 +51,15 @@ returns c =
 index-questions-requires : tie.Need-index-questions-requires
 index-questions-requires c κs = let p = c .before .before .before .before .before .before .before .before .pre in (p .0, p .2)
 
-take-turn-requires : tie.Need-take-turn-requires
-take-turn-requires c κs =
+take-single-requires : tie.Need-take-single-requires
+take-single-requires c κs =
     let c₁ = c .before .before .before .before .before .before .before in
     let c₂ = c₁ .before .before .before .before in
     let s = c₂ .args .job .now in
     let t = c₂ .args .table .now in
     let p = c₂ .pre in
     let r = ranges (jobOf s) t (sym (c .before .before .before .before .before .enum-told .given .1) ∙ c₁ .check-table .ensures) in
-    (record { job = p .0; indexed = p .1; table = r .0; newests = r .1 }, (c .before .before .index-questions .ensures, omega (arith, c .before .before .before .if1 .left, c .before .before .before .before .worker-count .ensures .value)))
+    (record { job = p .0; indexed = p .1; table = r .0; newests = r .1 }, c .before .before .index-questions .ensures, omega (arith, c .before .before .before .if1 .left, c .before .before .before .before .worker-count .ensures .value))
 
 same-length-2 : tie.Need-same-length-2
 same-length-2 c = search needs
@@ -94,7 +94,7 @@ returns-3 c =
     let a = c₁ .enum-told .given .1 in
     let b = c₂ .check-table .ensures in
     let q : Accepted ≡ checkTurnWorker s w = pass _ _ _ _ (notBelow-no w (workers s) (omega (arith, c .before .before .before .before .before .before .if1 .left, c .before .before .before .before .before .before .before .worker-count .ensures .value))) refl in
-    let m = c .before .before .take-turn .ensures in
+    let m = c .before .before .take-single .ensures in
     (goes-on F (checkTable (jobOf s) t) (checkTurnWorker s w) a b (ap Made (m .kindIs) ∙ ap F q), goes-on G (checkTable (jobOf s) t) (checkTurnWorker s w) a b (m .tableIs ∙ ap G q))
 
 pub turn-accepted-spec : {M : Type 1} → statement M
@@ -108,7 +108,7 @@ turn-accepted-spec =
     same-length
     returns
     index-questions-requires
-    take-turn-requires
+    take-single-requires
     same-length-2
     returns-2
     same-length-3

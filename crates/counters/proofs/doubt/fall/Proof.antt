@@ -23,12 +23,12 @@ abbrev μ-loop : tie.MeasureT-loop
 mul-half : tie.Need-mul-half Inv-loop μ-loop
 mul-half c =
     let start = c .before .before .before .before .before .before .before .pre in
-    omega (arith, queue-top (start .1 .1 .1 .queue), start .1 .0 .2, start .0 .sized .claimsMost)
+    omega (arith, queue-top (start .1 .1 .queue), start .1 .0 .2, start .0 .sized .claimsMost)
 
 slice-read-half : tie.Need-slice-read-half Inv-loop μ-loop
 slice-read-half c =
     let start = c .before .before .before .before .before .before .before .before .pre in
-    omega (arith, queue-top (start .1 .1 .1 .queue), start .1 .0 .2, start .1 .1 .1 .queue .long)
+    omega (arith, queue-top (start .1 .1 .queue), start .1 .0 .2, start .1 .1 .queue .long)
 
 half-requires : tie.Need-half-requires Inv-loop μ-loop
 half-requires c κs =
@@ -37,17 +37,17 @@ half-requires c κs =
 add-half : tie.Need-add-half Inv-loop μ-loop
 add-half c =
     let start = c .before .before .before .before .before .before .before .before .before .pre in
-    omega (arith, c .half .ensures .value, start .1 .1 .1 .queue .small _ (start .1 .0 .2), start .0 .sized .claimsMost, start .1 .0 .0 .startLong)
+    omega (arith, c .half .ensures .value, start .1 .1 .queue .small _ (start .1 .0 .2), start .0 .sized .claimsMost, start .1 .0 .0 .startLong)
 
 mul-half-2 : tie.Need-mul-half-2 Inv-loop μ-loop
 mul-half-2 c =
     let start = c .before .before .before .before .before .before .before .before .before .pre in
-    omega (arith, c .half .ensures .value, start .1 .1 .1 .queue .small _ (start .1 .0 .2), start .0 .sized .claimsMost, start .1 .0 .0 .startLong)
+    omega (arith, c .half .ensures .value, start .1 .1 .queue .small _ (start .1 .0 .2), start .0 .sized .claimsMost, start .1 .0 .0 .startLong)
 
 shared-slice-read-half : tie.Need-shared-slice-read-half Inv-loop μ-loop
 shared-slice-read-half c =
     let start = c .before .before .before .before .before .before .before .before .before .before .pre in
-    omega (arith, c .before .half .ensures .value, start .1 .1 .1 .queue .small _ (start .1 .0 .2), start .0 .sized .claimsMost, start .1 .0 .0 .startLong)
+    omega (arith, c .before .half .ensures .value, start .1 .1 .queue .small _ (start .1 .0 .2), start .0 .sized .claimsMost, start .1 .0 .0 .startLong)
 
 half-requires-2 : tie.Need-half-requires-2 Inv-loop μ-loop
 half-requires-2 c κs =
@@ -56,12 +56,12 @@ half-requires-2 c κs =
 mul-half-3 : tie.Need-mul-half-3 Inv-loop μ-loop
 mul-half-3 c =
     let start = c .before .before .before .before .before .before .before .before .before .before .before .pre in
-    omega (arith, c .before .before .half .ensures .value, start .1 .1 .1 .queue .small _ (start .1 .0 .2), start .0 .sized .claimsMost, start .1 .0 .0 .startLong)
+    omega (arith, c .before .before .half .ensures .value, start .1 .1 .queue .small _ (start .1 .0 .2), start .0 .sized .claimsMost, start .1 .0 .0 .startLong)
 
 shared-slice-read-half-2 : tie.Need-shared-slice-read-half-2 Inv-loop μ-loop
 shared-slice-read-half-2 c =
     let start = c .before .before .before .before .before .before .before .before .before .before .before .before .pre in
-    omega (arith, c .before .before .before .half .ensures .value, start .1 .1 .1 .queue .small _ (start .1 .0 .2), start .0 .sized .claimsMost, start .1 .0 .0 .startLong)
+    omega (arith, c .before .before .before .half .ensures .value, start .1 .1 .queue .small _ (start .1 .0 .2), start .0 .sized .claimsMost, start .1 .0 .0 .startLong)
 
 half-requires-3 : tie.Need-half-requires-3 Inv-loop μ-loop
 half-requires-3 c κs =
@@ -71,7 +71,7 @@ loop-holds : tie.Need-loop-holds Inv-loop μ-loop
 loop-holds c =
     let start = c .before .before .before .before .before .before .before .before .before .before .before .before .before .pre in
     let k = c .before .before .before .before .half .ensures .value in
-    let small = start .1 .1 .1 .queue .small _ (start .1 .0 .2) in (
+    let small = start .1 .1 .queue .small _ (start .1 .0 .2) in (
       refl,
       refl,
       refl,
@@ -102,7 +102,7 @@ owe-requires c κs =
     let r = c₁ .half4 .ensures .value in
     let more = subst (λ (y : ℕ). l .j < y) (l .inv .3) (c₁ .before .before .loop-test .taken) in
     let now = l .inv .4 in
-    let some = now .state .carried .some .1 in
+    let some = now .state .falling in
     let at = failing-next _ _ _ _ _ _ _ _ _ (start .0) (start .1 .0 .0) _ _ _ _ _ _ now more _ r in
     (start .0, ((at .below, start .1 .0 .1, some .size, some .counts .long, at .few), at .room))
 

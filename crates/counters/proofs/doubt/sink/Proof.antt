@@ -13,30 +13,30 @@ use Rattle.counters.proofs.doubt.sink.Tie as tie
 
 abbrev Inv-loop : tie.InvT-loop
 Inv-loop job start occ k fail₀ u₀ list₀ bottom i₀ top₀ fail u list i top =
-    (i ≤ top) × Sunk job k (owners job) fail₀ u₀ list₀ 0 bottom fail u list i (literals job) top × (length fail ≡ length fail₀) × (length u ≡ length u₀)
+    (i ≤ top) × Sunk job k (owners job) fail₀ u₀ list₀ bottom fail u list i (literals job) top × (length fail ≡ length fail₀) × (length u ≡ length u₀)
     × (length list ≡ length list₀)
 
 abbrev μ-loop : tie.MeasureT-loop
 μ-loop job start occ k fail₀ u₀ list₀ bottom i₀ top₀ fail u list i top = keys job - i
 
 loop-holds : tie.Need-loop-holds Inv-loop μ-loop
-loop-holds c = (omega arith, sunk-start _ _ _ _ _ _ _ _ (c .before .before .before .before .before .before .before .pre .1 .1), refl, refl, refl)
+loop-holds c = (omega arith, sunk-start _ _ _ _ _ _ _ (c .before .before .before .before .before .before .before .pre .1 .1), refl, refl, refl)
 
 fall-requires : tie.Need-fall-requires Inv-loop μ-loop
 fall-requires c κs =
     let l = c .before .before .before .before in
     let start = l .before .before .before .before .before .before .before .before .pre in
-    (start .0, ((start .1 .0 .0, start .1 .0 .1, omega arith), l .loop .inv .1 .carried .some))
+    (start .0, ((start .1 .0 .0, start .1 .0 .1, omega arith), l .loop .inv .1 .falling))
 
 add-i : tie.Need-add-i Inv-loop μ-loop
 add-i c =
     let l = c .before .before .before .before .before .before .before .before .before .before .before in
-    omega (arith, sunk-top _ _ _ _ _ _ _ _ _ _ _ _ _ _ (l .loop .inv .1), l .before .before .before .before .before .before .before .before .pre .0 .sized .claimsMost)
+    omega (arith, sunk-top _ _ _ _ _ _ _ _ _ _ _ _ _ (l .loop .inv .1), l .before .before .before .before .before .before .before .before .pre .0 .sized .claimsMost)
 
 loop-less : tie.Need-loop-less Inv-loop μ-loop
 loop-less c =
     let l = c .before .before .before .before .before .before .before .before .before .before .before in
-    omega (arith, sunk-top _ _ _ _ _ _ _ _ _ _ _ _ _ _ (l .loop .inv .1))
+    omega (arith, sunk-top _ _ _ _ _ _ _ _ _ _ _ _ _ (l .loop .inv .1))
 
 loop-again : tie.Need-loop-again Inv-loop μ-loop
 loop-again c =
@@ -59,7 +59,7 @@ same-length-3 : tie.Need-same-length-3 Inv-loop μ-loop
 same-length-3 c = c .before .loop .inv .4
 
 returns : tie.Need-returns Inv-loop μ-loop
-returns c = sunk-end _ _ _ _ _ _ _ _ _ _ _ _ _ _ (c .before .loop .inv .0) (c .loop-test .left) (c .before .loop .inv .1)
+returns c = sunk-end _ _ _ _ _ _ _ _ _ _ _ _ _ (c .before .loop .inv .0) (c .loop-test .left) (c .before .loop .inv .1)
 
 pub sink-spec : {M : Type 1} → statement M
 sink-spec =

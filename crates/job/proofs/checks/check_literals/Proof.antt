@@ -33,6 +33,16 @@ claim-count-requires c κs = omega arith
 rule-count-requires : tie.Need-rule-count-requires Inv-loop μ-loop Inv-rules μ-rules
 rule-count-requires c κs = omega arith
 
+highest-claim-requires : tie.Need-highest-claim-requires Inv-loop μ-loop Inv-rules μ-rules
+highest-claim-requires c κs = c .before .before .before .pre .0
+
+half-requires : tie.Need-half-requires Inv-loop μ-loop Inv-rules μ-rules
+half-requires c κs = tt
+
+returns : tie.Need-returns Inv-loop μ-loop Inv-rules μ-rules
+unfolding checkLiterals
+returns c = scan-none _ _ _ _ (λ j l. notBelow-no _ _ (omega (arith, c .before .before .highest-claim .ensures j l)))
+
 rules-holds : tie.Need-rules-holds Inv-loop μ-loop Inv-rules μ-rules
 unfolding bodyStart
 rules-holds c = (omega arith, refl, below-none _)
@@ -42,12 +52,12 @@ body-length-at-requires c κs = omega arith
 
 add-end : tie.Need-add-end Inv-loop μ-loop Inv-rules μ-rules
 add-end c =
-    let s = c .before .before .before .before .before .before .args .job .now in
+    let s = c .before .before .before .before .before .before .before .before .before .args .job .now in
     omega (arith, body-within s (c .before .before .rules .i) (rules s) (omega arith))
 
 loop-holds : tie.Need-loop-holds Inv-loop μ-loop Inv-rules μ-rules
 loop-holds c =
-    let s = c .before .before .before .before .before .before .args .job .now in
+    let s = c .before .before .before .before .before .before .before .before .before .args .job .now in
     let r = c .before .before .rules in
     (omega arith, omega (arith, body-within s (r .i) (rules s) (omega arith)), r .inv .2)
 
@@ -58,8 +68,8 @@ claim-of-requires : tie.Need-claim-of-requires Inv-loop μ-loop Inv-rules μ-rul
 claim-of-requires c κs = omega arith
 
 -- the claim that was read, in the terms of the table
-claim : (c : tie.After-claim-of Inv-loop μ-loop Inv-rules μ-rules) → c .claim-of .result ≡ claimOf (literalAt (c .before .before .before .before .before .before .before .before .before .before .args .job .now) (rules (c .before .before .before .before .before .before .before .before .before .before .args .job .now)) (c .before .before .before .loop .k))
-claim c = claim-at _ _ (c .before .before .before .before .before .before .before .rule-count .ensures .value) (c .before .literal-at .ensures) (c .claim-of .ensures)
+claim : (c : tie.After-claim-of Inv-loop μ-loop Inv-rules μ-rules) → c .claim-of .result ≡ claimOf (literalAt (c .before .before .before .before .before .before .before .before .before .before .before .before .before .args .job .now) (rules (c .before .before .before .before .before .before .before .before .before .before .before .before .before .args .job .now)) (c .before .before .before .loop .k))
+claim c = claim-at _ _ (c .before .before .before .before .before .before .before .before .before .before .rule-count .ensures .value) (c .before .literal-at .ensures) (c .claim-of .ensures)
 
 add-k : tie.Need-add-k Inv-loop μ-loop Inv-rules μ-rules
 add-k c = omega arith
@@ -80,7 +90,7 @@ rules-less c = omega arith
 
 rules-again : tie.Need-rules-again Inv-loop μ-loop Inv-rules μ-rules
 rules-again c =
-    let s = c .before .before .before .before .before .before .before .before .args .job .now in
+    let s = c .before .before .before .before .before .before .before .before .before .before .before .args .job .now in
     let i = c .before .before .before .before .rules .i in
     (omega arith, omega (arith, bodyStart-next s i), c .before .loop .inv .2)
 
@@ -89,15 +99,15 @@ record Met (s : List ℕ) (k : ℕ) : Type 0 where
   before-k : (j : ℕ) → j < k → badLiteral s j ≡ false
   at-k : k < literals s → badLiteral s k ≡ true
 
-met : (c : tie.Left-rules Inv-loop μ-loop Inv-rules μ-rules) → Met (c .before .before .before .before .before .args .job .now) (c .rules-test .k)
+met : (c : tie.Left-rules Inv-loop μ-loop Inv-rules μ-rules) → Met (c .before .before .before .before .before .before .before .before .args .job .now) (c .rules-test .k)
 met c =
-    let s = c .before .before .before .before .before .args .job .now in
+    let s = c .before .before .before .before .before .before .before .before .args .job .now in
     ⊎-elim
     (λ w.
     let e : c .before .rules .i ≡ rules s = omega arith in
     record { before-k = λ j l. c .before .rules .inv .2 j (omega arith); at-k = λ l. absurd (omega (arith, ap (bodyStart s) e)) })
     (λ w.
-    let e = claim-at s (w .2 .k) (c .before .before .rule-count .ensures .value) (w .4 .ensures) (w .5 .ensures) in
+    let e = claim-at s (w .2 .k) (c .before .before .before .before .before .rule-count .ensures .value) (w .4 .ensures) (w .5 .ensures) in
     record { before-k = λ j l. w .2 .inv .2 j (omega arith); at-k = λ l. rw (w .7) (notBelow-yes _ _ (omega arith)) })
     (c .rules-test .came)
 
@@ -119,15 +129,15 @@ add-refused-2 c = omega arith
 refused-requires : tie.Need-refused-requires Inv-loop μ-loop Inv-rules μ-rules
 refused-requires c κs = tt
 
-returns : tie.Need-returns Inv-loop μ-loop Inv-rules μ-rules
+returns-2 : tie.Need-returns-2 Inv-loop μ-loop Inv-rules μ-rules
 unfolding checkLiterals
-returns c =
+returns-2 c =
     let m = met (c .before .before .before) in
     placed (c .refused .ensures) (omega arith) ∙ scan-at _ _ (c .before .before .before .rules-test .k) _ _ (omega arith) (m .before-k) (m .at-k (omega arith))
 
-returns-2 : tie.Need-returns-2 Inv-loop μ-loop Inv-rules μ-rules
+returns-3 : tie.Need-returns-3 Inv-loop μ-loop Inv-rules μ-rules
 unfolding checkLiterals
-returns-2 c = scan-none _ _ _ _ (λ j l. met (c .before .before) .before-k j (omega arith))
+returns-3 c = scan-none _ _ _ _ (λ j l. met (c .before .before) .before-k j (omega arith))
 
 pub check-literals-spec : {M : Type 1} → statement M
 check-literals-spec =
@@ -139,6 +149,9 @@ check-literals-spec =
     μ-rules
     claim-count-requires
     rule-count-requires
+    highest-claim-requires
+    half-requires
+    returns
     rules-holds
     body-length-at-requires
     add-end
@@ -157,5 +170,5 @@ check-literals-spec =
     mul-refused-2
     add-refused-2
     refused-requires
-    returns
-    returns-2)
+    returns-2
+    returns-3)

@@ -11,8 +11,8 @@ use Rattle.model.proofs.alternate.alternate.Statement.{statement}
 use Rattle.model.proofs.alternate.alternate.Tie as tie
 
 abbrev Inv-loop : tie.InvT-loop
-Inv-loop job known start occ tail need₀ fail₀ k₀ u₀ queue₀ list₀ top₀ need fail k u queue list top =
-    ((a : Claims) × Poised job known a need fail k u queue top)
+Inv-loop job start occ tail need₀ fail₀ k₀ u₀ queue₀ list₀ top₀ need fail k u queue list top =
+    ((a : Claims) × Poised job a need fail k u queue top)
     × (length need ≡ length need₀)
     × (length fail ≡ length fail₀)
     × (length k ≡ length k₀)
@@ -21,27 +21,26 @@ Inv-loop job known start occ tail need₀ fail₀ k₀ u₀ queue₀ list₀ top
     × (length list ≡ length list₀)
 
 abbrev μ-loop : tie.MeasureT-loop
-μ-loop job known start occ tail need₀ fail₀ k₀ u₀ queue₀ list₀ top₀ need fail k u queue list top =
+μ-loop job start occ tail need₀ fail₀ k₀ u₀ queue₀ list₀ top₀ need fail k u queue list top =
     count (setOf u) (claims job)
 
 first-u-requires : tie.Need-first-u-requires Inv-loop μ-loop
 first-u-requires c κs =
-    let start = c .before .before .before .before .before .before .before .before .before .before .before .before .before .before .pre in
+    let start = c .before .before .before .before .before .before .before .before .before .before .before .before .before .pre in
     (start .0, (start .1 .0 .0, start .1 .1 .0))
 
 first-k-requires : tie.Need-first-k-requires Inv-loop μ-loop
 first-k-requires c κs =
-    let start = c .before .before .before .before .before .before .before .before .before .before .before .before .before .before .before .before .before .before .before .before .before .before .before .before .before .before .pre in
+    let start = c .before .before .before .before .before .before .before .before .before .before .before .before .before .before .before .before .before .before .before .before .before .before .before .before .before .pre in
     let first = c .before .before .before .before .before .before .before .before .before .before .before .first-u in
     let blank = start .1 .1 .1 in (
       start .0,
       record {
-        few = blank .few;
         counts = blank .counts;
         empty = blank .empty;
         size = blank .size;
-        sizeU = first .kept .1 .1 .1 .1 .1 .0 ∙ blank .sizeU;
-        room = omega (arith, first .kept .1 .1 .1 .1 .1 .1 .0, blank .room);
+        sizeU = first .kept .1 .1 .1 .1 .0 ∙ blank .sizeU;
+        room = omega (arith, first .kept .1 .1 .1 .1 .1 .0, blank .room);
         listRoom = blank .listRoom;
       },
     )
@@ -52,18 +51,18 @@ loop-holds c =
 
 rise-requires : tie.Need-rise-requires Inv-loop μ-loop
 rise-requires c κs =
-    let start = c .before .before .before .before .before .before .before .before .before .before .before .before .before .before .before .before .before .before .before .before .before .before .before .before .before .before .before .before .before .before .before .before .before .before .before .before .before .pre in
+    let start = c .before .before .before .before .before .before .before .before .before .before .before .before .before .before .before .before .before .before .before .before .before .before .before .before .before .before .before .before .before .before .before .before .before .before .before .before .pre in
     let now = c .before .before .before .loop .inv .0 .1 in
     (start .0, (start .1 .0 .0, ((_, now .growing), now .ready)))
 
 shrink-requires : tie.Need-shrink-requires Inv-loop μ-loop
 shrink-requires c κs =
     let l = c .before .before .before .before .before .before .before .before .before .before .before .before .before .before .before .loop in
-    let start = c .before .before .before .before .before .before .before .before .before .before .before .before .before .before .before .before .before .before .before .before .before .before .before .before .before .before .before .before .before .before .before .before .before .before .before .before .before .before .before .before .before .before .before .before .before .before .before .before .before .pre in
+    let start = c .before .before .before .before .before .before .before .before .before .before .before .before .before .before .before .before .before .before .before .before .before .before .before .before .before .before .before .before .before .before .before .before .before .before .before .before .before .before .before .before .before .before .before .before .before .before .before .before .pre in
     let k = c .before .before .before .before .before .before .before .before .before .before .before .before .before .before .before .before .before .before .before .before .before .before .first-k in
     let rise = c .before .before .before .before .before .before .before .before .before .before .before .rise in (
       start .0,
-      ((start .1 .0 .0, start .1 .0 .1, omega (arith, l .inv .6, k .kept .1 .1 .1 .1 .1 .1 .0, start .1 .1 .1 .listRoom)), (record { known = _; before = l .inv .0 .0 }, risen-by _ _ _ (start .0) _ _ _ _ _ _ (l .inv .0 .1) _ _ _ _ (rise .ensures))),
+      ((start .1 .0 .0, start .1 .0 .1, omega (arith, l .inv .6, k .kept .1 .1 .1 .1 .1 .0, start .1 .1 .1 .listRoom)), (l .inv .0 .0, risen-by _ _ (start .0) _ _ _ _ _ _ (l .inv .0 .1) _ _ _ _ (rise .ensures))),
     )
 
 same-length : tie.Need-same-length Inv-loop μ-loop
@@ -81,7 +80,7 @@ same-length-2 c =
     let l = c₂ .before .before .before .before .loop in
     let u = c₂ .before .before .before .before .before .before .before .before .before .before .before .before .before .before .before .before .before .before .before .before .before .before .before .first-u in
     let shrink = c₁ .shrink in
-    shrink .kept .1 .1 .1 .1 .1 .0 ∙ l .inv .2 ∙ u .kept .1 .1 .1 .1 .0
+    shrink .kept .1 .1 .1 .1 .1 .0 ∙ l .inv .2 ∙ u .kept .1 .1 .1 .0
 
 same-length-3 : tie.Need-same-length-3 Inv-loop μ-loop
 same-length-3 c =
@@ -90,7 +89,7 @@ same-length-3 c =
     let l = c₂ .before .before .before .before .loop in
     let k = c₂ .before .before .before .before .before .before .before .before .before .before .before .first-k in
     let rise = c₂ .rise in
-    rise .kept .1 .1 .1 .1 .0 ∙ l .inv .3 ∙ k .kept .1 .1 .1 .0
+    rise .kept .1 .1 .1 .1 .0 ∙ l .inv .3 ∙ k .kept .1 .1 .0
 
 same-length-4 : tie.Need-same-length-4 Inv-loop μ-loop
 same-length-4 c =
@@ -99,7 +98,7 @@ same-length-4 c =
     let l = c₂ .before .before .before .before .loop in
     let u = c₂ .before .before .before .before .before .before .before .before .before .before .before .before .before .before .before .before .before .before .before .before .before .before .before .first-u in
     let shrink = c₁ .shrink in
-    shrink .kept .1 .1 .1 .1 .1 .1 .0 ∙ l .inv .4 ∙ u .kept .1 .1 .1 .1 .1 .0
+    shrink .kept .1 .1 .1 .1 .1 .1 .0 ∙ l .inv .4 ∙ u .kept .1 .1 .1 .1 .0
 
 same-length-5 : tie.Need-same-length-5 Inv-loop μ-loop
 same-length-5 c =
@@ -110,7 +109,7 @@ same-length-5 c =
     let u = c₂ .before .before .before .before .before .before .before .before .before .before .before .before .before .before .before .before .before .before .before .before .before .before .before .first-u in
     let shrink = c₁ .shrink in
     let rise = c₂ .rise in
-    shrink .kept .1 .1 .1 .1 .1 .1 .1 .0 ∙ rise .kept .1 .1 .1 .1 .1 .0 ∙ l .inv .5 ∙ k .kept .1 .1 .1 .1 .1 .0 ∙ u .kept .1 .1 .1 .1 .1 .1 .0
+    shrink .kept .1 .1 .1 .1 .1 .1 .1 .0 ∙ rise .kept .1 .1 .1 .1 .1 .0 ∙ l .inv .5 ∙ k .kept .1 .1 .1 .1 .0 ∙ u .kept .1 .1 .1 .1 .1 .0
 
 same-length-6 : tie.Need-same-length-6 Inv-loop μ-loop
 same-length-6 c =
@@ -119,37 +118,37 @@ same-length-6 c =
     let l = c₂ .before .before .before .before .loop in
     let k = c₂ .before .before .before .before .before .before .before .before .before .before .before .first-k in
     let shrink = c₁ .shrink in
-    shrink .kept .1 .1 .1 .1 .1 .1 .1 .1 .0 ∙ l .inv .6 ∙ k .kept .1 .1 .1 .1 .1 .1 .0
+    shrink .kept .1 .1 .1 .1 .1 .1 .1 .1 .0 ∙ l .inv .6 ∙ k .kept .1 .1 .1 .1 .1 .0
 
 returns : tie.Need-returns Inv-loop μ-loop
 returns c =
     let c₁ = c .before .before .before .before .before .before .before .before .before in
     let c₂ = c₁ .before .before .before .before .before .before .before .before .before .before .before .before in
     let l = c₂ .before .before .before .before .loop in
-    let start = c₂ .before .before .before .before .before .before .before .before .before .before .before .before .before .before .before .before .before .before .before .before .before .before .before .before .before .before .before .before .before .before .before .before .before .before .before .before .before .before .pre in
+    let start = c₂ .before .before .before .before .before .before .before .before .before .before .before .before .before .before .before .before .before .before .before .before .before .before .before .before .before .before .before .before .before .before .before .before .before .before .before .before .before .pre in
     let shrink = c₁ .shrink in
     let rise = c₂ .rise in
-    poised-stops _ _ _ _ _ _ _ _ (risen-by _ _ _ (start .0) _ _ _ _ _ _ (l .inv .0 .1) _ _ _ _ (rise .ensures)) _ _ _ _ (shrink .ensures (record { known = _; before = l .inv .0 .0 }) (risen-by _ _ _ (start .0) _ _ _ _ _ _ (l .inv .0 .1) _ _ _ _ (rise .ensures))) (c .if1 .taken)
+    poised-stops _ _ _ _ _ _ _ (risen-by _ _ (start .0) _ _ _ _ _ _ (l .inv .0 .1) _ _ _ _ (rise .ensures)) _ _ _ _ (shrink .ensures (l .inv .0 .0) (risen-by _ _ (start .0) _ _ _ _ _ _ (l .inv .0 .1) _ _ _ _ (rise .ensures))) (c .if1 .taken)
 
 loop-less : tie.Need-loop-less Inv-loop μ-loop
 loop-less c =
     let c₁ = c .before .before .before .before .before .before .before .before .before in
     let c₂ = c₁ .before .before .before .before .before .before .before .before .before .before .before .before in
     let l = c₂ .before .before .before .before .loop in
-    let start = c₂ .before .before .before .before .before .before .before .before .before .before .before .before .before .before .before .before .before .before .before .before .before .before .before .before .before .before .before .before .before .before .before .before .before .before .before .before .before .before .pre in
+    let start = c₂ .before .before .before .before .before .before .before .before .before .before .before .before .before .before .before .before .before .before .before .before .before .before .before .before .before .before .before .before .before .before .before .before .before .before .before .before .before .pre in
     let shrink = c₁ .shrink in
     let rise = c₂ .rise in
-    poised-less _ _ _ _ _ _ _ _ (risen-by _ _ _ (start .0) _ _ _ _ _ _ (l .inv .0 .1) _ _ _ _ (rise .ensures)) _ _ _ _ (shrink .ensures (record { known = _; before = l .inv .0 .0 }) (risen-by _ _ _ (start .0) _ _ _ _ _ _ (l .inv .0 .1) _ _ _ _ (rise .ensures))) (c .if1 .left)
+    poised-less _ _ _ _ _ _ _ (risen-by _ _ (start .0) _ _ _ _ _ _ (l .inv .0 .1) _ _ _ _ (rise .ensures)) _ _ _ _ (shrink .ensures (l .inv .0 .0) (risen-by _ _ (start .0) _ _ _ _ _ _ (l .inv .0 .1) _ _ _ _ (rise .ensures))) (c .if1 .left)
 
 loop-again : tie.Need-loop-again Inv-loop μ-loop
 loop-again c =
     let c₁ = c .before .before .before .before .before .before .before .before .before in
     let c₂ = c₁ .before .before .before .before .before .before .before .before .before .before .before .before in
     let l = c₂ .before .before .before .before .loop in
-    let start = c₂ .before .before .before .before .before .before .before .before .before .before .before .before .before .before .before .before .before .before .before .before .before .before .before .before .before .before .before .before .before .before .before .before .before .before .before .before .before .before .pre in
+    let start = c₂ .before .before .before .before .before .before .before .before .before .before .before .before .before .before .before .before .before .before .before .before .before .before .before .before .before .before .before .before .before .before .before .before .before .before .before .before .before .pre in
     let shrink = c₁ .shrink in
     let rise = c₂ .rise in (
-      (_, poised-next _ _ _ (start .0) _ _ _ _ _ _ (l .inv .0 .1) _ _ _ _ (rise .ensures) _ _ _ _ (shrink .ensures (record { known = _; before = l .inv .0 .0 }) (risen-by _ _ _ (start .0) _ _ _ _ _ _ (l .inv .0 .1) _ _ _ _ (rise .ensures)))),
+      (_, poised-next _ _ (start .0) _ _ _ _ _ _ (l .inv .0 .1) _ _ _ _ (rise .ensures) _ _ _ _ (shrink .ensures (l .inv .0 .0) (risen-by _ _ (start .0) _ _ _ _ _ _ (l .inv .0 .1) _ _ _ _ (rise .ensures)))),
       rise .kept .1 .1 .1 .0 ∙ l .inv .1,
       shrink .kept .1 .1 .1 .1 .1 .0 ∙ l .inv .2,
       rise .kept .1 .1 .1 .1 .0 ∙ l .inv .3,

@@ -13,16 +13,16 @@ list-all-requires c κs = search needs
 
 lose-requires : tie.Need-lose-requires
 lose-requires c κs =
-    let start = c .before .before .before .before .before .before .before .before .before .before .before .before .before .before .before .before .before .before .before .before .pre in
+    let start = c .before .before .before .before .before .before .before .before .before .before .before .before .before .before .before .before .before .before .before .pre in
     let blank = start .1 in
-    let u = c .before .before .before .before .before .before .before .before .before .before .before .before .before .before .before .before .before .before .before .before .args .u .now in
+    let u = c .before .before .before .before .before .before .before .before .before .before .before .before .before .before .before .before .before .before .before .args .u .now in
     let begun = c .before .before .before .before .before .before .before .before .before .before .begin .ensures in (
       (
         c .before .before .before .before .list-all .ensures .0,
-        start-queue _ _ (start .0) (blank .few) _ _ u _ (blank .counts) (blank .empty) (blank .size) (blank .sizeU) (blank .room) _ _ _ begun,
+        start-queue _ (start .0) _ _ u _ (blank .counts) (blank .empty) (blank .size) (blank .sizeU) (blank .room) _ _ _ begun,
         omega (arith, blank .sizeU, start .0 .sized .claimsMost),
       ),
-      start-plain _ _ (start .0) (blank .few) _ _ u _ (blank .counts) (blank .empty) (blank .size) (blank .sizeU) (blank .room) _ _ _ begun,
+      start-plain _ (start .0) _ _ u _ (blank .counts) (blank .empty) (blank .size) (blank .sizeU) (blank .room) _ _ _ begun,
     )
 
 same-length : tie.Need-same-length
@@ -36,10 +36,10 @@ same-length-3 c = search needs
 
 returns : tie.Need-returns
 returns c =
-    let start = c .before .before .before .before .before .before .before .before .before .before .before .before .before .before .before .before .before .before .before .before .before .before .before .pre in
+    let start = c .before .before .before .before .before .before .before .before .before .before .before .before .before .before .before .before .before .before .before .before .before .before .pre in
     let blank = start .1 in
     let listed = c .before .before .before .before .before .before .before .list-all .ensures in
-    start-poised _ _ (start .0) (blank .few) _ _ _ _ (blank .counts) (blank .empty) (blank .size) (blank .sizeU) (blank .room) _ _ _ (c .before .before .before .before .before .before .before .before .before .before .before .before .before .begin .ensures) _ _ _ (listed .0) (listed .1)
+    start-poised _ (start .0) _ _ _ _ (blank .counts) (blank .empty) (blank .size) (blank .sizeU) (blank .room) _ _ _ (c .before .before .before .before .before .before .before .before .before .before .before .before .before .begin .ensures) _ _ _ (listed .0) (listed .1)
     (c .before .before .lose .ensures)
 
 pub first-k-spec : {M : Type 1} → statement M

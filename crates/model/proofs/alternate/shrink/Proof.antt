@@ -19,7 +19,7 @@ sink-requires c κs =
     let start = c .before .before .before .before .before .before .before .before .before .before .before .before .before .before .before .before .before .pre in
     let n = c .before .before .before .before .before .negate in
     let risen = start .1 .1 .1 in
-    (start .0, ((start .1 .0 .0, risen .size), risen-falling _ _ _ (start .0) _ _ _ _ _ risen _ _ (omega (arith, n .kept .1 .1 .0, start .1 .0 .2)) (n .ensures)))
+    (start .0, ((start .1 .0 .0, risen .size), risen-falling _ _ (start .0) _ _ _ _ _ risen _ _ (omega (arith, n .kept .1 .1 .0, start .1 .0 .2)) (n .ensures)))
 
 regain-requires : tie.Need-regain-requires
 regain-requires c κs =
@@ -30,7 +30,7 @@ regain-requires c κs =
       start .0,
       (
         (start .1 .0 .0, start .1 .0 .1, risen .queue .long),
-        (record { known = start .1 .1 .0 .known; before = setOf _ }, fell-by _ _ _ (start .0) _ _ _ _ _ risen _ _ (omega (arith, n .kept .1 .1 .0, start .1 .0 .2)) (n .ensures) _ _ _ _ (c₁ .sink .ensures)),
+        (setOf _, fell-by _ _ (start .0) _ _ _ _ _ risen _ _ (omega (arith, n .kept .1 .1 .0, start .1 .0 .2)) (n .ensures) _ _ _ _ (c₁ .sink .ensures)),
       ),
     )
 
@@ -41,8 +41,8 @@ lose-requires c κs =
     let start = c₂ .before .before .before .before .before .before .before .before .before .before .before .before .before .before .before .before .before .before .pre in
     let n = c₂ .before .before .before .before .before .before .negate in
     let risen = start .1 .1 .1 in
-    let fell = fell-by _ _ _ (start .0) _ _ _ _ _ risen _ _ (omega (arith, n .kept .1 .1 .0, start .1 .0 .2)) (n .ensures) _ _ _ _ (c₂ .sink .ensures) in
-    lose-ready _ _ _ _ _ _ _ _ _ (start .0) (c₁ .regain .ensures .upper _ fell) (fell .doubted) (omega (arith, c₁ .regain .kept .1 .1 .1 .1 .1 .1 .0, risen .queue .long))
+    let fell = fell-by _ _ (start .0) _ _ _ _ _ risen _ _ (omega (arith, n .kept .1 .1 .0, start .1 .0 .2)) (n .ensures) _ _ _ _ (c₂ .sink .ensures) in
+    lose-ready _ _ _ _ _ _ _ _ (start .0) (c₁ .regain .ensures .upper _ fell) (fell .doubted) (omega (arith, c₁ .regain .kept .1 .1 .1 .1 .1 .1 .0, risen .queue .long))
 
 same-length : tie.Need-same-length
 same-length c = search needs
@@ -63,9 +63,9 @@ returns c =
     let c₂ = c₁ .before .before .before .before .before .before .before .before .before .before .before in
     let start = c₂ .before .before .before .before .before .before .before .before .before .before .before .before .before .before .before .before .before .before .pre in
     let n = c₂ .before .before .before .before .before .before .negate in
-    let fell = fell-by _ _ _ (start .0) _ _ _ _ _ risen _ _ (omega (arith, n .kept .1 .1 .0, start .1 .0 .2)) (n .ensures) _ _ _ _ (c₂ .sink .ensures) in
-    let left = fell-left _ _ _ (start .0) _ _ _ _ _ risen _ _ (omega (arith, n .kept .1 .1 .0, start .1 .0 .2)) (n .ensures) _ _ _ _ (c₂ .sink .ensures) in
-    shrunk-by _ _ _ _ _ _ _ _ risen _ _ _ _ _ (c₁ .regain .ensures .upper _ fell) (c₁ .regain .ensures .keeps) left _ _ _ (c .before .before .lose .ensures)
+    let fell = fell-by _ _ (start .0) _ _ _ _ _ risen _ _ (omega (arith, n .kept .1 .1 .0, start .1 .0 .2)) (n .ensures) _ _ _ _ (c₂ .sink .ensures) in
+    let left = fell-left _ _ (start .0) _ _ _ _ _ risen _ _ (omega (arith, n .kept .1 .1 .0, start .1 .0 .2)) (n .ensures) _ _ _ _ (c₂ .sink .ensures) in
+    shrunk-by _ _ _ _ _ _ _ risen _ _ _ _ _ (c₁ .regain .ensures .upper _ fell) (c₁ .regain .ensures .keeps) left _ _ _ (c .before .before .lose .ensures)
 
 pub shrink-spec : {M : Type 1} → statement M
 shrink-spec =

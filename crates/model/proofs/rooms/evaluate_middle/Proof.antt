@@ -55,14 +55,14 @@ array-borrow-prefix-k c = search needs
 
 slice-aggregate-evaluate-in-6 : tie.Need-slice-aggregate-evaluate-in-6
 slice-aggregate-evaluate-in-6 c =
-    claims-part (c .before .before .before .before .before .before .before .before .before .before .before .before .before .before .before .claim-count .ensures .value) (c .before .before .before .before .before .before .before .before .before .before .before .before .before .before .before .before .before .before .before .pre .1 .0) (c .before .before .before .before .before .before .before .before .before .middle-claims .ensures)
+    claims-part (c .before .before .before .before .before .before .before .before .before .before .before .before .before .before .before .claim-count .ensures .value) (c .before .before .before .before .before .before .before .before .before .before .before .before .before .before .before .before .before .before .pre .1 .0) (c .before .before .before .before .before .before .before .before .before .middle-claims .ensures)
 
 array-borrow-prefix-u : tie.Need-array-borrow-prefix-u
 array-borrow-prefix-u c = search needs
 
 slice-aggregate-evaluate-in-7 : tie.Need-slice-aggregate-evaluate-in-7
 slice-aggregate-evaluate-in-7 c =
-    claims-part (c .before .before .before .before .before .before .before .before .before .before .before .before .before .before .before .before .claim-count .ensures .value) (c .before .before .before .before .before .before .before .before .before .before .before .before .before .before .before .before .before .before .before .before .pre .1 .0) (c .before .before .before .before .before .before .before .before .before .middle-claims2 .ensures)
+    claims-part (c .before .before .before .before .before .before .before .before .before .before .before .before .before .before .before .before .claim-count .ensures .value) (c .before .before .before .before .before .before .before .before .before .before .before .before .before .before .before .before .before .before .before .pre .1 .0) (c .before .before .before .before .before .before .before .before .before .middle-claims2 .ensures)
 
 slice-aggregate-evaluate-in-8 : tie.Need-slice-aggregate-evaluate-in-8
 slice-aggregate-evaluate-in-8 c = search needs
@@ -72,9 +72,9 @@ slice-aggregate-evaluate-in-9 c = search needs
 
 evaluate-in-requires : tie.Need-evaluate-in-requires
 evaluate-in-requires c κs =
-    let start = c .before .before .before .before .before .before .before .before .before .before .before .before .before .before .before .before .before .before .before .before .before .before .before .pre in
+    let start = c .before .before .before .before .before .before .before .before .before .before .before .before .before .before .before .before .before .before .before .before .before .before .pre in
     let n = c .before .before .before .before .before .before .before .before .before .before .before .before .before .before .before .before .before .before .before .claim-count .ensures .value in
-    (start .0, (unused-of 1024 1536 4096 2049 (start .1 .0) (omega arith) (omega arith) n (start .1 .1) (c .before .before .before .before .before .before .before .before .before .before .before .before .before .before .before .before .before .before .middle-keys .ensures) (c .before .before .before .before .before .before .before .before .before .before .before .before .before .before .before .before .before .middle-positions .ensures) (c .before .before .before .before .before .before .before .before .before .before .before .before .before .before .before .before .middle-rules .ensures) (c .before .before .before .before .before .before .before .before .before .before .before .before .before .before .before .middle-rules2 .ensures) (c .before .before .before .before .before .before .before .before .before .before .before .before .before .before .middle-rules3 .ensures) (c .before .before .before .before .before .before .before .before .before .before .before .before .before .middle-claims .ensures) (c .before .before .before .before .before .before .before .before .before .before .before .before .middle-claims2 .ensures) (c .before .before .before .before .before .before .before .before .before .before .before .middle-keys2 .ensures) (c .before .before .before .before .before .before .before .before .before .before .middle-keys3 .ensures), start .1 .2))
+    (start .0, (unused-of 1024 1536 4096 2049 (start .1 .0) (omega arith) (omega arith) n (c .before .before .before .before .before .before .before .before .before .before .before .before .before .before .before .before .before .before .middle-keys .ensures) (c .before .before .before .before .before .before .before .before .before .before .before .before .before .before .before .before .before .middle-positions .ensures) (c .before .before .before .before .before .before .before .before .before .before .before .before .before .before .before .before .middle-rules .ensures) (c .before .before .before .before .before .before .before .before .before .before .before .before .before .before .before .middle-rules2 .ensures) (c .before .before .before .before .before .before .before .before .before .before .before .before .before .before .middle-rules3 .ensures) (c .before .before .before .before .before .before .before .before .before .before .before .before .before .middle-claims .ensures) (c .before .before .before .before .before .before .before .before .before .before .before .before .middle-claims2 .ensures) (c .before .before .before .before .before .before .before .before .before .before .before .middle-keys2 .ensures) (c .before .before .before .before .before .before .before .before .before .before .middle-keys3 .ensures), start .1 .1))
 
 same-length : tie.Need-same-length
 same-length c = search needs

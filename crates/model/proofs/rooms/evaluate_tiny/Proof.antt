@@ -55,14 +55,14 @@ array-borrow-prefix-k c = search needs
 
 slice-aggregate-evaluate-in-6 : tie.Need-slice-aggregate-evaluate-in-6
 slice-aggregate-evaluate-in-6 c =
-    claims-part (c .before .before .before .before .before .before .before .before .before .before .before .before .before .before .before .claim-count .ensures .value) (c .before .before .before .before .before .before .before .before .before .before .before .before .before .before .before .before .before .before .before .pre .1 .0) (c .before .before .before .before .before .before .before .before .before .tiny-claims .ensures)
+    claims-part (c .before .before .before .before .before .before .before .before .before .before .before .before .before .before .before .claim-count .ensures .value) (c .before .before .before .before .before .before .before .before .before .before .before .before .before .before .before .before .before .before .pre .1 .0) (c .before .before .before .before .before .before .before .before .before .tiny-claims .ensures)
 
 array-borrow-prefix-u : tie.Need-array-borrow-prefix-u
 array-borrow-prefix-u c = search needs
 
 slice-aggregate-evaluate-in-7 : tie.Need-slice-aggregate-evaluate-in-7
 slice-aggregate-evaluate-in-7 c =
-    claims-part (c .before .before .before .before .before .before .before .before .before .before .before .before .before .before .before .before .claim-count .ensures .value) (c .before .before .before .before .before .before .before .before .before .before .before .before .before .before .before .before .before .before .before .before .pre .1 .0) (c .before .before .before .before .before .before .before .before .before .tiny-claims2 .ensures)
+    claims-part (c .before .before .before .before .before .before .before .before .before .before .before .before .before .before .before .before .claim-count .ensures .value) (c .before .before .before .before .before .before .before .before .before .before .before .before .before .before .before .before .before .before .before .pre .1 .0) (c .before .before .before .before .before .before .before .before .before .tiny-claims2 .ensures)
 
 slice-aggregate-evaluate-in-8 : tie.Need-slice-aggregate-evaluate-in-8
 slice-aggregate-evaluate-in-8 c = search needs
@@ -72,9 +72,9 @@ slice-aggregate-evaluate-in-9 c = search needs
 
 evaluate-in-requires : tie.Need-evaluate-in-requires
 evaluate-in-requires c κs =
-    let start = c .before .before .before .before .before .before .before .before .before .before .before .before .before .before .before .before .before .before .before .before .before .before .before .pre in
+    let start = c .before .before .before .before .before .before .before .before .before .before .before .before .before .before .before .before .before .before .before .before .before .before .pre in
     let n = c .before .before .before .before .before .before .before .before .before .before .before .before .before .before .before .before .before .before .before .claim-count .ensures .value in
-    (start .0, (unused-of 16 24 64 33 (start .1 .0) (omega arith) (omega arith) n (start .1 .1) (c .before .before .before .before .before .before .before .before .before .before .before .before .before .before .before .before .before .before .tiny-keys .ensures) (c .before .before .before .before .before .before .before .before .before .before .before .before .before .before .before .before .before .tiny-positions .ensures) (c .before .before .before .before .before .before .before .before .before .before .before .before .before .before .before .before .tiny-rules .ensures) (c .before .before .before .before .before .before .before .before .before .before .before .before .before .before .before .tiny-rules2 .ensures) (c .before .before .before .before .before .before .before .before .before .before .before .before .before .before .tiny-rules3 .ensures) (c .before .before .before .before .before .before .before .before .before .before .before .before .before .tiny-claims .ensures) (c .before .before .before .before .before .before .before .before .before .before .before .before .tiny-claims2 .ensures) (c .before .before .before .before .before .before .before .before .before .before .before .tiny-keys2 .ensures) (c .before .before .before .before .before .before .before .before .before .before .tiny-keys3 .ensures), start .1 .2))
+    (start .0, (unused-of 16 24 64 33 (start .1 .0) (omega arith) (omega arith) n (c .before .before .before .before .before .before .before .before .before .before .before .before .before .before .before .before .before .before .tiny-keys .ensures) (c .before .before .before .before .before .before .before .before .before .before .before .before .before .before .before .before .before .tiny-positions .ensures) (c .before .before .before .before .before .before .before .before .before .before .before .before .before .before .before .before .tiny-rules .ensures) (c .before .before .before .before .before .before .before .before .before .before .before .before .before .before .before .tiny-rules2 .ensures) (c .before .before .before .before .before .before .before .before .before .before .before .before .before .before .tiny-rules3 .ensures) (c .before .before .before .before .before .before .before .before .before .before .before .before .before .tiny-claims .ensures) (c .before .before .before .before .before .before .before .before .before .before .before .before .tiny-claims2 .ensures) (c .before .before .before .before .before .before .before .before .before .before .before .tiny-keys2 .ensures) (c .before .before .before .before .before .before .before .before .before .before .tiny-keys3 .ensures), start .1 .1))
 
 same-length : tie.Need-same-length
 same-length c = search needs

@@ -8,8 +8,8 @@ fits-requires c κs = search needs
 
 evaluate-middle-requires : tie.Need-evaluate-middle-requires
 evaluate-middle-requires c κs =
-    let start = c .before .before .before .before .before .before .pre in
-    (start .0, (c .before .before .fits2 .ensures (c .before .if1 .taken), start .1 .0, start .1 .1))
+    let start = c .before .before .before .before .before .pre in
+    (start .0, (c .before .before .fits2 .ensures (c .before .if1 .taken), start .1))
 
 evaluate-large-requires : tie.Need-evaluate-large-requires
 evaluate-large-requires c κs = search needs

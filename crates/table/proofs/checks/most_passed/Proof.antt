@@ -1,15 +1,14 @@
 -- `table::checks::most_passed` meets its contract: a claim has as many literals as lie between its entry of the index and the next.
 -- Assumes nothing.
-use Prim.Native.Nat.{_-_, _+_, _≤_}
-use mathlib.Core.Path.{_≡_, sym, _∙_, ap}
+use Prim.Native.Nat.{_-_, _≤_}
+use mathlib.Core.Path.{_≡_, sym, _∙_}
 use native.Mathlib.Omega.{arith}
 use borrow.Author.Tests.{eq-eqb, ne-eqb}
 use lib.ListN.{length}
 use Rattle.base.proofs.Choose.{pick-true, pick-false}
 use Rattle.job.specs.Job.{literalsOf}
 use Rattle.job.specs.Format.{jobOf}
-use Rattle.job.specs.declared.Cursor.{Cursor}
-use Rattle.job.proofs.Contiguous.{claim-literals}
+use Rattle.table.proofs.Fitting.{counted}
 use Rattle.table.proofs.checks.most_passed.Statement.{statement}
 use Rattle.table.proofs.checks.most_passed.Tie as tie
 
@@ -23,12 +22,7 @@ over-requires c κs = let b = c .before .before in omega (arith, b .pre .1 .1, b
 count : (c : tie.After-struct-known) → (c .before .over .result .at ≤ c .before .over .result .end) × (c .before .over .result .end - c .before .over .result .at ≡ length (literalsOf (c .before .before .before .before .args .c) (jobOf (c .before .before .before .before .args .job .now) .rules)))
 count c =
     let b = c .before .before .before .before in
-    let at = b .pre .1 .0 .starts in
-    let l = claim-literals (b .args .job .now) (b .pre .0) (b .args .c) in
-    let e = c .before .over .ensures in
-    let x = ap (λ (y : Cursor). y .at) e in
-    let z = ap (λ (y : Cursor). y .end) e in
-    omega (arith, at (b .args .c) (omega arith), at (b .args .c + 1) (omega arith))
+    counted _ _ (b .args .c) (b .pre .0) (b .pre .1 .0) (b .pre .1 .1) (c .before .over .ensures)
 
 sub-result : tie.Need-sub-result
 sub-result c = count c .0

@@ -20,6 +20,11 @@ use Rattle.turn.proofs.Places.{place-low}
 use Rattle.turn.proofs.ThirdWords.{kept-low}
 use Rattle.table.proofs.Sizes.{sizes}
 use Rattle.job.proofs.Accepted.{header-room}
+use Rattle.turn.specs.declared.Kept.{Kept}
+use Rattle.turn.specs.declared.Taken.{Taken}
+use Rattle.turn.specs.declared.Kind.the-variants.{Opened}
+use Rattle.turn.proofs.Jobs.{job-ok}
+use Rattle.turn.proofs.KeptTurns.{done-as, await-keeps, answer-keeps, open-forgets}
 use Rattle.turn.proofs.asking.ask.Statement.{statement}
 use Rattle.turn.proofs.asking.ask.Tie as tie
 
@@ -116,8 +121,9 @@ same-length : tie.Need-same-length
 same-length c = search needs
 
 returns : tie.Need-returns
-returns c =
-    let c₁ = c .before .before .before .before .before .before in
+returns c place members k =
+    let c₀ = c .before in
+    let c₁ = c₀ .before .before .before .before .before .before in
     let c₂ = c₁ .before .before .before in
     let c₃ = c₂ .before .before .before in
     let c₄ = c₃ .before .before .before .before .before in
@@ -129,8 +135,10 @@ returns c =
     let q = c₃ .before .before .question-at .result in
     let v = c₁ .before .value-of .ensures in
     let one = c₁ .set-answer .ensures ∙ ap (set t (answerAt (c₄ .claim-count .result) (c₂ .worker-count .result) (a .k))) v in
-    made-from (c .before .before .set-answered .ensures ∙ ap (λ (x : List ℕ). set x (answeredAt (c₄ .claim-count .result) (a .w)) (a .n + 1)) one)
-    (puts-answered s t (a .w) (a .n) (a .k) q (c₃ .mark-at .result) (p .0 .0) (p .0 .3) (p .0 .2) (p .1 .0) (p .1 .1) (p .1 .2) (asked (c₃ .before .before)) (c₃ .mark-at .ensures .value) (complete-yes (c₂ .before .before .is-complete .ensures) (c₂ .before .if1 .taken)) (c₄ .claim-count .ensures .value) (c₂ .worker-count .ensures .value))
+    done-as (c .after .ensures)
+    (made-from (c₀ .before .before .set-answered .ensures ∙ ap (λ (x : List ℕ). set x (answeredAt (c₄ .claim-count .result) (a .w)) (a .n + 1)) one)
+    (puts-answered s t (a .w) (a .n) (a .k) q (c₃ .mark-at .result) (p .0 .0) (p .0 .3) (p .0 .2) (p .1 .0) (p .1 .1) (p .1 .2) (asked (c₃ .before .before)) (c₃ .mark-at .ensures .value) (complete-yes (c₂ .before .before .is-complete .ensures) (c₂ .before .if1 .taken)) (c₄ .claim-count .ensures .value) (c₂ .worker-count .ensures .value)))
+    (answer-keeps _ (job-ok _ (p .0 .0)) _ _ _ _ k _ _ _ _ _ (c₄ .claim-count .ensures .value ∙ sym (sizes s .claims-are)) (c₀ .before .before .set-answered .ensures ∙ ap (λ (x : List ℕ). set x (answeredAt (c₄ .claim-count .result) (a .w)) (a .n + 1)) one))
 
 open-newest-requires : tie.Need-open-newest-requires
 open-newest-requires c κs =
@@ -149,14 +157,17 @@ same-length-2 : tie.Need-same-length-2
 same-length-2 c = search needs
 
 returns-2 : tie.Need-returns-2
-returns-2 c =
-    let c₁ = c .before .before .before .before in
+returns-2 c place members k =
+    let c₀ = c .before .before in
+    let c₁ = c₀ .before .before .before .before in
     let c₂ = c₁ .before .before .before in
     let c₃ = c₂ .before .before .before .before .before in
     let c₄ = c₃ .before .before .before in
     let a = c₄ .args in
     let p = c₄ .pre in
-    puts-opened (a .job .now) (a .table .now) (a .w) (a .n) (a .k) (c₂ .before .before .question-at .result) (c₂ .mark-at .result) (p .0 .0) (p .0 .3) (p .0 .2) (p .1 .0) (p .1 .1) (p .1 .2) (asked (c₂ .before .before)) (c₂ .mark-at .ensures .value) (c₁ .if2 .taken) (p .0 .1) (c₃ .claim-count .ensures .value) (c .before .before .open-newest .ensures)
+    done-as (c .after2 .ensures ∙ ap {B = Taken} (λ (x : Kept). record { kind = Opened; kept = x }) (c .before .forgotten .ensures))
+    (puts-opened (a .job .now) (a .table .now) (a .w) (a .n) (a .k) (c₂ .before .before .question-at .result) (c₂ .mark-at .result) (p .0 .0) (p .0 .3) (p .0 .2) (p .1 .0) (p .1 .1) (p .1 .2) (asked (c₂ .before .before)) (c₂ .mark-at .ensures .value) (c₁ .if2 .taken) (p .0 .1) (c₃ .claim-count .ensures .value) (c₀ .before .before .open-newest .ensures))
+    (open-forgets _ (job-ok _ (p .0 .0)) _ _ _ _ k _ _ (omega (arith, sizes (a .job .now) .claims-are, sure (c₂ .before .before) .low)) (sym (c₂ .mark-at .ensures .value) ∙ c₁ .if2 .taken) (p .0 .1 .claim _ (omega (arith, sizes (a .job .now) .claims-are, sure (c₂ .before .before) .low)) .unread (sym (c₂ .mark-at .ensures .value) ∙ c₁ .if2 .taken)) (omega (arith, p .0 .2, p .0 .0 .sized .workersMost)) (omega (arith, p .0 .1 .room)) _ (c₃ .claim-count .ensures .value ∙ sym (sizes (a .job .now) .claims-are)) (c₀ .before .before .open-newest .ensures))
 
 add-set-awaited : tie.Need-add-set-awaited
 add-set-awaited c =
@@ -174,15 +185,30 @@ same-length-3 : tie.Need-same-length-3
 same-length-3 c = search needs
 
 returns-3 : tie.Need-returns-3
-returns-3 c =
-    let c₁ = c .before .before .before .before in
+returns-3 c place members k =
+    let c₀ = c .before in
+    let c₁ = c₀ .before .before .before .before in
     let c₂ = c₁ .before .before .before in
     let c₃ = c₂ .before .before .before .before .before in
     let c₄ = c₃ .before .before .before in
     let a = c₄ .args in
     let p = c₄ .pre in
-    made-from (c .before .before .set-awaited .ensures)
-    (puts-waits (a .job .now) (a .table .now) (a .w) (a .n) (a .k) (c₂ .before .before .question-at .result) (c₂ .mark-at .result) (p .0 .0) (p .0 .3) (p .0 .2) (p .1 .0) (p .1 .1) (p .1 .2) (asked (c₂ .before .before)) (c₂ .mark-at .ensures .value) (c₁ .if2 .left) (complete-no (c₁ .before .before .is-complete .ensures) (c₁ .before .if1 .left)) (c₃ .claim-count .ensures .value))
+    done-as (c .after3 .ensures)
+    (made-from (c₀ .before .before .set-awaited .ensures)
+    (puts-waits (a .job .now) (a .table .now) (a .w) (a .n) (a .k) (c₂ .before .before .question-at .result) (c₂ .mark-at .result) (p .0 .0) (p .0 .3) (p .0 .2) (p .1 .0) (p .1 .1) (p .1 .2) (asked (c₂ .before .before)) (c₂ .mark-at .ensures .value) (c₁ .if2 .left) (complete-no (c₁ .before .before .is-complete .ensures) (c₁ .before .if1 .left)) (c₃ .claim-count .ensures .value)))
+    (await-keeps _ (job-ok _ (p .0 .0)) _ _ _ _ k _ _ (c₃ .claim-count .ensures .value ∙ sym (sizes (a .job .now) .claims-are)) (c₀ .before .before .set-awaited .ensures))
+
+after-requires : tie.Need-after-requires
+after-requires c κs = search needs
+
+forgotten-requires : tie.Need-forgotten-requires
+forgotten-requires c κs = search needs
+
+after-requires-2 : tie.Need-after-requires-2
+after-requires-2 c κs = search needs
+
+after-requires-3 : tie.Need-after-requires-3
+after-requires-3 c κs = search needs
 
 pub ask-spec : {M : Type 1} → statement M
 ask-spec =
@@ -199,12 +225,16 @@ ask-spec =
     set-answer-requires
     add-set-answered
     set-answered-requires
+    after-requires
     same-length
     returns
     open-newest-requires
+    forgotten-requires
+    after-requires-2
     same-length-2
     returns-2
     add-set-awaited
     set-awaited-requires
+    after-requires-3
     same-length-3
     returns-3)

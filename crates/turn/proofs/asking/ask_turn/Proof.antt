@@ -12,6 +12,7 @@ use Rattle.table.proofs.Sizes.{sizes}
 use Rattle.table.proofs.QuestionPlaces.{listed-room}
 use Rattle.turn.proofs.PutQuestion.{puts-none}
 use Rattle.turn.proofs.Following.{room, answered-read}
+use Rattle.turn.proofs.KeptTurns.{done-as}
 use Rattle.turn.proofs.asking.ask_turn.Statement.{statement}
 use Rattle.turn.proofs.asking.ask_turn.Tie as tie
 
@@ -42,14 +43,17 @@ same-length : tie.Need-same-length
 same-length c = search needs
 
 returns : tie.Need-returns
-returns c =
-    let c₁ = c .before .before .before .before in
+returns c place members k =
+    let c₀ = c .before in
+    let c₁ = c₀ .before .before .before .before in
     let c₂ = c₁ .before .before .before in
     let a = c₂ .args in
     let p = c₂ .pre in
     let s = a .job .now in
-    puts-none (jobOf s) (a .table .now) (a .w) _ (p .1 .3) (answered-read s (a .table .now) (a .w) (c₁ .claim-count .ensures .value) (c .before .before .answered-at .ensures .value))
-    (omega (arith, c .if1 .taken, c .before .asked-count .ensures, p .0 .counts (a .w) (its s (a .w) (p .1 .2))))
+    done-as (c .after .ensures)
+    (puts-none (jobOf s) (a .table .now) (a .w) _ (p .1 .3) (answered-read s (a .table .now) (a .w) (c₁ .claim-count .ensures .value) (c₀ .before .before .answered-at .ensures .value))
+    (omega (arith, c₀ .if1 .taken, c₀ .before .asked-count .ensures, p .0 .counts (a .w) (its s (a .w) (p .1 .2)))))
+    (k)
 
 asked-at-requires : tie.Need-asked-at-requires
 asked-at-requires c κs =
@@ -76,6 +80,9 @@ same-length-2 c = search needs
 returns-2 : tie.Need-returns-2
 returns-2 c = search needs
 
+after-requires : tie.Need-after-requires
+after-requires c κs = search needs
+
 pub ask-turn-spec : {M : Type 1} → statement M
 ask-turn-spec =
     tie.close
@@ -83,6 +90,7 @@ ask-turn-spec =
     claim-count-requires
     answered-at-requires
     asked-count-requires
+    after-requires
     same-length
     returns
     asked-at-requires

@@ -10,7 +10,7 @@ use Rattle.job.specs.Job.{claimOf, mostLiterals}
 use Rattle.job.specs.Format.{rules as rulesOf}
 use Rattle.job.specs.declared.Literal.{Literal}
 use Rattle.job.proofs.Accepted.{header-room}
-use Rattle.turn.specs.Turn.{failed}
+use Rattle.table.specs.Literals.{failed}
 use Rattle.turn.proofs.Skipping.{Looking, looking-starts, looking-most, looking-start, looking-low, looking-more, back-byte, back-word, found-none, found-other, found-failed}
 use Rattle.turn.proofs.failing.rule_failed.Statement.{statement}
 use Rattle.turn.proofs.failing.rule_failed.Tie as tie

@@ -15,11 +15,11 @@ use Rattle.turn.proofs.gather.expand.Statement.{statement}
 use Rattle.turn.proofs.gather.expand.Tie as tie
 
 abbrev Inv-loop : tie.InvT-loop
-Inv-loop job index table rules seen₀ queue₀ bottom cursor₀ top₀ seen queue cursor top =
-    Expanding job rules index table cursor₀ (record { seen = seen₀; queue = queue₀; top = top₀ }) cursor (record { seen = seen; queue = queue; top = top })
+Inv-loop job index table rules place₀ members₀ bottom cursor₀ top₀ place members cursor top =
+    Expanding job rules index table cursor₀ (record { place = place₀; members = members₀; top = top₀ }) cursor (record { place = place; members = members; top = top })
 
 abbrev μ-loop : tie.MeasureT-loop
-μ-loop job index table rules seen₀ queue₀ bottom cursor₀ top₀ seen queue cursor top = cursor .end - cursor .at
+μ-loop job index table rules place₀ members₀ bottom cursor₀ top₀ place members cursor top = cursor .end - cursor .at
 
 -- a literal is left
 left : (c : tie.Then1 Inv-loop μ-loop) → c .before .before .loop .cursor .at < c .before .before .loop .cursor .end

@@ -1,74 +1,65 @@
--- `turn::working::complete` meets its contract. The claims fit the arrays. Assumes nothing.
-use Prim.Native.Nat.{ℕ}
-use mathlib.Core.Path.{sym, _∙_, ap₂}
-use mathlib.Core.List.{List}
+-- `turn::working::complete` meets its contract. The members fit the array. Assumes nothing.
+use Prim.Native.Nat.{ℕ, _≤_}
+use mathlib.Core.Path.{sym, _∙_, ap}
 use native.Mathlib.Omega.{arith}
 use borrow.Author.Needs.{needs}
-use lib.ListN.{set}
+use lib.ListN.{length, set}
 use lib.Seq.{length-take-le}
+use Rattle.job.proofs.Accepted.{header-room}
 use Rattle.table.specs.Layout.{newestAt}
 use Rattle.table.specs.Newest.{sought}
 use Rattle.table.proofs.Sizes.{sizes}
 use Rattle.turn.proofs.Following.{room}
+use Rattle.turn.proofs.PartMarks.{part-few}
 use Rattle.turn.proofs.working.complete.Statement.{statement}
 use Rattle.turn.proofs.working.complete.Tie as tie
 
 no-bytes-requires : tie.Need-no-bytes-requires
-no-bytes-requires c κs = search needs
+no-bytes-requires c κs = tt
 
-no-bytes-requires-2 : tie.Need-no-bytes-requires-2
-no-bytes-requires-2 c κs = search needs
-
-array-borrow-prefix-known : tie.Need-array-borrow-prefix-known
-array-borrow-prefix-known c = search needs
-
-slice-aggregate-complete-in : tie.Need-slice-aggregate-complete-in
-slice-aggregate-complete-in c =
-    let a = c .before .before .before .before .before .before .before .pre in
-    sym (length-take-le _ _ (omega (arith, a .1 .0, a .0 .0 .sized .claimsMost, c .before .before .before .no-bytes .ensures)))
+-- the members fit the array
+few : (c : tie.After-no-bytes) → length (c .before .before .before .before .before .args .members .now) ≤ length (c .no-bytes .result)
+few c = omega (arith, c .no-bytes .ensures, part-few (c .before .before .before .before .before .pre .0 .0))
 
 array-borrow-prefix-values : tie.Need-array-borrow-prefix-values
-array-borrow-prefix-values c = search needs
+array-borrow-prefix-values c = few (c .before)
 
-slice-aggregate-complete-in-2 : tie.Need-slice-aggregate-complete-in-2
-slice-aggregate-complete-in-2 c =
-    let a = c .before .before .before .before .before .before .before .before .pre in
-    sym (length-take-le _ _ (omega (arith, a .1 .0, a .0 .0 .sized .claimsMost, c .before .before .before .no-bytes2 .ensures)))
+slice-aggregate-complete-in : tie.Need-slice-aggregate-complete-in
+slice-aggregate-complete-in c = sym (length-take-le _ _ (few (c .before .before)))
 
 complete-in-requires : tie.Need-complete-in-requires
-complete-in-requires c κs =
-    let a = c .before .before .before .before .before .before .before .before .pre in
-    let few = a .0 .0 .sized .claimsMost in
-    (a .0, (a .1 .0, length-take-le _ _ (omega (arith, a .1 .0, c .before .before .before .before .no-bytes .ensures)) ∙ a .1 .0, length-take-le _ _ (omega (arith, a .1 .0, c .before .before .before .no-bytes2 .ensures)) ∙ a .1 .0))
+complete-in-requires c κs = (c .before .before .before .before .before .before .before .pre .0, length-take-le _ _ (few (c .before .before)))
+
+claim-count-requires : tie.Need-claim-count-requires
+claim-count-requires c κs = header-room _ (c .before .before .before .before .before .before .before .before .before .before .before .before .pre .0 .0 .job)
 
 seek-newest-requires : tie.Need-seek-newest-requires
 seek-newest-requires c κs =
-    let c₁ = c .before .before .before .before .before in
-    let a = c₁ .before .before .before .before .before .before .before .before .before .pre in
-    omega (arith, room _ _ (a .0 .1), a .0 .0 .sized .claimsMost, a .0 .0 .sized .workersMost, a .1, c₁ .complete-in .kept)
+    let p = c .before .before .before .before .before .before .before .before .before .before .before .before .before .pre in
+    omega (arith, c .claim-count .ensures .value, p .1, p .0 .0 .job .sized .claimsMost, p .0 .0 .job .sized .workersMost, room _ _ (p .0 .0 .table), c .before .before .before .before .before .complete-in .ensures .long)
 
 same-length : tie.Need-same-length
 same-length c = search needs
 
 returns : tie.Need-returns
 returns c =
-    let c₁ = c .before .before .before .before .before .before .before .before in
-    let c₂ = c₁ .before .before .before .before .before .before .before .before .before in
-    let w = c₂ .args .w in
-    let e = c₂ .pre .1 .0 ∙ sym (sizes (c₂ .args .job .now) .claims-are) in
-    record { is = c .before .before .seek-newest .ensures ∙ ap₂ (λ (x : List ℕ) (n : ℕ). set x (newestAt n w) (sought n x w)) (c₁ .complete-in .ensures) e }
+    let m = c .before .before .before .before .before .before .before .before .complete-in in
+    let n = c .before .before .before .claim-count .ensures .value ∙ sym (sizes (c .before .before .before .before .before .before .before .before .before .before .before .before .before .before .before .before .args .job .now) .claims-are) in
+    record {
+      marks = m .last .1 .1 .0;
+      marked = m .ensures;
+      renewed = record { is = c .before .before .seek-newest .ensures ∙ ap (λ (a : ℕ). set (m .last .1 .1 .0) (newestAt a (c .before .before .before .before .before .before .before .before .before .before .before .before .before .before .before .before .args .w)) (sought a (m .last .1 .1 .0) (c .before .before .before .before .before .before .before .before .before .before .before .before .before .before .before .before .args .w))) n };
+    }
 
 pub complete-spec : {M : Type 1} → statement M
 complete-spec =
     tie.close
     (tie.spec
     no-bytes-requires
-    no-bytes-requires-2
-    array-borrow-prefix-known
-    slice-aggregate-complete-in
     array-borrow-prefix-values
-    slice-aggregate-complete-in-2
+    slice-aggregate-complete-in
     complete-in-requires
+    claim-count-requires
     seek-newest-requires
     same-length
     returns)

@@ -1,0 +1,15 @@
+pub mod Rules
+pub mod Resolved
+pub mod Verdicts
+pub mod Sizes
+pub mod Limits
+pub mod LiteralsRead
+pub mod Stating
+pub mod Counting
+pub mod LiteralsPut
+pub mod Seeking
+pub mod RuleText
+pub mod Walking
+pub mod Claiming
+pub mod PartPut
+pub mod PartValued
