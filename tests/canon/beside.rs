@@ -7,7 +7,7 @@ use oracle::checks::{Job, Refusal, MAX_JOB_BYTES};
 use oracle::draft::Draft;
 use oracle::orders::Orders;
 
-use crate::codes::{code_of, said};
+use crate::codes::fault_of_call;
 use crate::lent::{Input, Output};
 use crate::library;
 use crate::plain;
@@ -52,26 +52,6 @@ fn sort_of(job: &[u8], form: &Answer, answer: &Result<&[u8], Refusal>, length: u
     }
 }
 
-/// One call into so many bytes; what differs from this answer.
-pub fn fault_of_call<T: AsRef<[u8]>>(
-    job: &Input,
-    output: &mut Output,
-    length: usize,
-    answer: &Result<T, Refusal>,
-) -> Option<String> {
-    let code = library::form_of_job(job.bytes(), output.lend(length));
-    let written = answer.as_ref().map_or(&[][..], |form| form.as_ref());
-    let right = code_of(answer);
-    let fault = if code != right {
-        Some(format!("{}, expected {}", said(code), said(right)))
-    } else if job.altered() {
-        Some("the job was altered".to_string())
-    } else {
-        output.difference(length, written)
-    };
-    fault.map(|fault| format!("into {length} bytes: {fault}"))
-}
-
 /// The library's verdicts of an accepted job.
 fn verdicts(job: &[u8]) -> Result<Vec<u8>, plain::Refusal> {
     let mut verdicts = vec![0; 4096];
@@ -82,7 +62,7 @@ fn verdicts(job: &[u8]) -> Result<Vec<u8>, plain::Refusal> {
 
 /// A form that came out is its own form, and has the job's verdicts.
 fn fault_of_form(job: &[u8], form: &[u8], output: &mut Output) -> Option<String> {
-    if let Some(fault) = fault_of_call(&lend_job(form), output, form.len(), &Ok(form)) {
+    if let Some(fault) = fault_of_call(library::form_of_job, &lend_job(form), output, form.len(), &Ok(form)) {
         return Some(format!("the form of its form, {fault}"));
     }
     match (verdicts(job), verdicts(form)) {
@@ -109,7 +89,7 @@ pub fn compare(totals: &mut Totals, output: &mut Output, name: &str, job: &[u8])
         let held = |form| check_room(job, length).map(|()| form);
         let answer = form.as_deref().map_err(|&refusal| refusal).and_then(held);
         totals.count_call(sort_of(job, &form, &answer, length));
-        let mut fault = fault_of_call(&lent, output, length, &answer);
+        let mut fault = fault_of_call(library::form_of_job, &lent, output, length, &answer);
         if let (None, Ok(form), true) = (&fault, answer, length == job.len()) {
             let came_out = output.bytes(form.len()).to_vec();
             totals.again += 1;

@@ -13,7 +13,8 @@ use oracle::draft::{Draft, Random};
 use oracle::jobs::generate;
 use oracle::orders::Orders;
 
-use crate::beside::{compare, fault_of_call, form_of, lend_job, MOST_OUTPUT};
+use crate::beside::{compare, form_of, lend_job, MOST_OUTPUT};
+use crate::codes::fault_of_call;
 use crate::lent::Output;
 use crate::library;
 use crate::orders::compare_three;
@@ -26,7 +27,9 @@ pub fn compare_edges(totals: &mut Totals) {
         let name = format!("form edge {number}");
         compare(totals, &mut output, &name, &edge.job);
         totals.calls += 1;
-        if let Some(fault) = fault_of_call(&lend_job(&edge.job), &mut output, edge.output, &edge.expected) {
+        if let Some(fault) =
+            fault_of_call(library::form_of_job, &lend_job(&edge.job), &mut output, edge.output, &edge.expected)
+        {
             totals.differ(&name, &edge.job, &format!("{}: {fault}", edge.name));
         }
     }

@@ -9,6 +9,8 @@ mod beside;
 mod codes;
 #[path = "../compare/counts.rs"]
 mod counts;
+#[path = "../lines/differing.rs"]
+mod differing;
 mod lengths;
 #[path = "../lines/lent.rs"]
 mod lent;
@@ -17,6 +19,8 @@ mod made;
 #[path = "../compare/mapped.rs"]
 mod mapped;
 mod orders;
+#[path = "../compare/parts.rs"]
+mod parts;
 #[path = "../compare/library.rs"]
 #[allow(dead_code)]
 mod plain;
@@ -27,12 +31,11 @@ mod runs;
 mod totals;
 
 use std::ops::Range;
-use std::process::exit;
-use std::time::Instant;
 
-use arguments::{kinds_named, refuse};
+use arguments::{kinds_named, refuse, seeds};
 use counts::missing_unmet;
 use made::{compare_edges, compare_made, compare_small};
+use parts::{part, run};
 use runs::Program;
 use totals::Totals;
 
@@ -77,25 +80,6 @@ const GATE_RUNS: [(&str, u64); 6] =
 
 /// How many made strings the gate compares.
 const GATE_STRINGS: u64 = 20_000;
-
-/// Runs one part and says what it compared.
-fn part(all: &mut Totals, title: &str, work: impl FnOnce(&mut Totals)) -> Totals {
-    let start = Instant::now();
-    let mut totals = Totals::default();
-    work(&mut totals);
-    println!(
-        "{title}: {} jobs, {} accepted, {} with missing records, {} calls, {} runs, {} differences, {:.1} s",
-        totals.jobs,
-        totals.accepted,
-        totals.with_missing,
-        totals.calls,
-        totals.runs(),
-        totals.differences,
-        start.elapsed().as_secs_f64()
-    );
-    all.add(&totals);
-    totals
-}
 
 fn compare_kind(all: &mut Totals, kind: &str, seeds: Range<u64>) {
     let made = part(all, kind, |totals| compare_made(totals, kind, seeds));
@@ -145,38 +129,31 @@ fn compare_gate(all: &mut Totals) {
     all.expect_all_met();
 }
 
-fn seeds(from: &str, count: &str) -> Range<u64> {
-    match (from.parse::<u64>(), count.parse::<u64>()) {
-        (Ok(from), Ok(count)) => from..from + count,
+/// Runs what the words after the program's name say.
+fn command(all: &mut Totals, words: &[&str]) {
+    match words {
+        [] => compare_gate(all),
+        ["edges"] => _ = part(all, "edges", compare_edges),
+        ["small"] => _ = part(all, "small jobs", compare_small),
+        ["orders", from, count] => compare_orders(all, seeds(from, count, USAGE)),
+        ["lengths"] => compare_lengths(all),
+        ["calls"] => compare_calls(all),
+        ["made", kinds, from, count] => {
+            for kind in kinds_named(kinds, &GATE) {
+                compare_kind(all, &kind, seeds(from, count, USAGE));
+            }
+        }
+        ["program"] => run_program(all, &Program::find()),
+        ["program", kinds, from, count] => {
+            let program = Program::find();
+            for kind in kinds_named(kinds, &GATE_RUNS) {
+                run_kind(all, &program, &kind, seeds(from, count, USAGE));
+            }
+        }
         _ => refuse(USAGE),
     }
 }
 
 fn main() {
-    let arguments: Vec<String> = std::env::args().skip(1).collect();
-    let words: Vec<&str> = arguments.iter().map(String::as_str).collect();
-    let mut all = Totals::default();
-    match words.as_slice() {
-        [] => compare_gate(&mut all),
-        ["edges"] => _ = part(&mut all, "edges", compare_edges),
-        ["small"] => _ = part(&mut all, "small jobs", compare_small),
-        ["orders", from, count] => compare_orders(&mut all, seeds(from, count)),
-        ["lengths"] => compare_lengths(&mut all),
-        ["calls"] => compare_calls(&mut all),
-        ["made", kinds, from, count] => {
-            for kind in kinds_named(kinds, &GATE) {
-                compare_kind(&mut all, &kind, seeds(from, count));
-            }
-        }
-        ["program"] => run_program(&mut all, &Program::find()),
-        ["program", kinds, from, count] => {
-            let program = Program::find();
-            for kind in kinds_named(kinds, &GATE_RUNS) {
-                run_kind(&mut all, &program, &kind, seeds(from, count));
-            }
-        }
-        _ => refuse(USAGE),
-    }
-    all.summary();
-    exit(i32::from(all.differences > 0));
+    run(command)
 }

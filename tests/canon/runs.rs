@@ -10,7 +10,7 @@ use oracle::orders::Orders;
 
 use crate::beside::form_of;
 use crate::made::{made_job, made_partner};
-use crate::process::{outputs, path_of, spawn};
+use crate::process::{fault_of_output, outputs, path_of, spawn};
 use crate::totals::Totals;
 
 /// The sorts of runs: refused by a check, a form, a form that goes through the program
@@ -58,21 +58,6 @@ fn says(said: &str, refusal: &Refusal) -> bool {
     is_one_line(said) && said.starts_with(&start) && said.ends_with(&end)
 }
 
-/// What is wrong with what the program writes for a job.
-fn fault_of(answer: &Result<Vec<u8>, Refusal>, output: &Output) -> Option<String> {
-    let said = String::from_utf8_lossy(&output.stderr);
-    match answer {
-        _ if !output.status.success() => Some(format!("it ended with {}", output.status)),
-        Ok(form) if output.stdout != *form => {
-            let at = form.iter().zip(&output.stdout).take_while(|(right, byte)| right == byte).count();
-            Some(format!("{} bytes instead of {}, byte {at} differs; {said:?}", output.stdout.len(), form.len()))
-        }
-        Ok(_) => (!said.is_empty()).then(|| format!("on standard error it writes {said:?}")),
-        Err(_) if !output.stdout.is_empty() => Some(format!("refused, it writes {} bytes", output.stdout.len())),
-        Err(refusal) => (!says(&said, refusal)).then(|| format!("it says {said:?}, expected {refusal:?} in one line")),
-    }
-}
-
 impl Program {
     pub fn find() -> Program {
         Program { path: path_of("ZESTCHINTZ_CANONJOB", "target/bin/canonjob") }
@@ -91,7 +76,7 @@ impl Program {
         totals.jobs += 1;
         totals.run[sort.unwrap_or(by_answer)] += 1;
         let output = self.run(job, Stdio::piped());
-        if let Some(fault) = fault_of(&answer, &output) {
+        if let Some(fault) = fault_of_output(&answer, &output, says) {
             totals.differ(name, job, &format!("canonjob: {fault}"));
         }
         output.stdout

@@ -1,19 +1,13 @@
 //! What was compared and what differs.
 
-use std::path::Path;
-
 use oracle::canon_readings::{Shown, CANON_READINGS};
 use oracle::orders::{Missing, Orders};
 
 use crate::counts::{add, listed, unmet};
+use crate::differing;
 use crate::orders::COMPARED;
+use crate::parts::Counted;
 use crate::runs::RUNS;
-
-/// Where the job of a difference is kept.
-const FOLDER: &str = "target/tests";
-
-/// At most this many differences are printed.
-const PRINTED: usize = 20;
 
 /// The sorts of calls for a form: the checks that refuse, then how the form differs
 /// from the job.
@@ -78,26 +72,7 @@ impl Totals {
     /// A difference; its bytes are kept.
     pub fn differ(&mut self, name: &str, bytes: &[u8], what: &str) {
         self.differences += 1;
-        if self.differences <= PRINTED {
-            let path = Path::new(FOLDER).join(format!("canon-{}.job", name.replace(' ', "-")));
-            let kept = std::fs::write(&path, bytes).map_or_else(|error| error.to_string(), |()| "kept".to_string());
-            println!("differs: {name}: {what} ({}: {kept})", path.display());
-        }
-    }
-
-    pub fn add(&mut self, other: &Totals) {
-        self.jobs += other.jobs;
-        self.accepted += other.accepted;
-        self.with_missing += other.with_missing;
-        self.calls += other.calls;
-        self.again += other.again;
-        self.small += other.small;
-        self.differences += other.differences;
-        add(&mut self.called, &other.called);
-        add(&mut self.shown, &other.shown);
-        add(&mut self.pairs, &other.pairs);
-        add(&mut self.compared, &other.compared);
-        add(&mut self.run, &other.run);
+        differing::say(self.differences, name, what, bytes, "canon", "job");
     }
 
     /// The gate must meet every sort of call, comparison, pair and run, and jobs that
@@ -121,9 +96,40 @@ impl Totals {
         self.differences += 1;
         println!("differs: the gate: {what}");
     }
+}
 
-    /// The last lines: what was met, and how many differ.
-    pub fn summary(&self) {
+impl Counted for Totals {
+    fn add(&mut self, other: &Self) {
+        self.jobs += other.jobs;
+        self.accepted += other.accepted;
+        self.with_missing += other.with_missing;
+        self.calls += other.calls;
+        self.again += other.again;
+        self.small += other.small;
+        self.differences += other.differences;
+        add(&mut self.called, &other.called);
+        add(&mut self.shown, &other.shown);
+        add(&mut self.pairs, &other.pairs);
+        add(&mut self.compared, &other.compared);
+        add(&mut self.run, &other.run);
+    }
+
+    fn counts(&self) -> String {
+        format!(
+            "{} jobs, {} accepted, {} with missing records, {} calls, {} runs",
+            self.jobs,
+            self.accepted,
+            self.with_missing,
+            self.calls,
+            self.runs()
+        )
+    }
+
+    fn differences(&self) -> usize {
+        self.differences
+    }
+
+    fn summary(&self) {
         println!("calls by sort: {}", listed(&CALLED, &self.called));
         println!("wrong readings shown: {}", listed(&CANON_READINGS.map(|(name, _)| name), &self.shown));
         println!("comparisons by sort: {}; pairs: {}", listed(&COMPARED, &self.compared), listed(&PAIRS, &self.pairs));

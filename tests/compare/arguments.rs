@@ -1,5 +1,6 @@
 //! What the comparing programs make of their arguments.
 
+use std::ops::Range;
 use std::process::exit;
 
 /// The kinds of jobs named, or all of the gate's.
@@ -14,4 +15,12 @@ pub fn kinds_named(names: &str, gate: &[(&str, u64)]) -> Vec<String> {
 pub fn refuse(usage: &str) -> ! {
     eprint!("{usage}");
     exit(2);
+}
+
+/// COUNT seeds, the first of them FROM.
+pub fn seeds(from: &str, count: &str, usage: &str) -> Range<u64> {
+    match (from.parse(), count.parse::<u64>()) {
+        (Ok(from), Ok(count)) => from..from + count,
+        _ => refuse(usage),
+    }
 }

@@ -12,6 +12,7 @@ use oracle::readings::evaluation_shows;
 
 use crate::counts::{add, listed, unmet};
 use crate::library;
+use crate::parts::Counted;
 
 /// At most this many differences are printed.
 const PRINTED: usize = 20;
@@ -141,19 +142,6 @@ impl Totals {
         }
     }
 
-    pub fn add(&mut self, other: &Totals) {
-        self.jobs += other.jobs;
-        self.calls += other.calls;
-        self.accepted += other.accepted;
-        self.differences += other.differences;
-        self.missing_jobs += other.missing_jobs;
-        add(&mut self.refused, &other.refused);
-        add(&mut self.verdicts, &other.verdicts);
-        add(&mut self.missing, &other.missing);
-        add(&mut self.misread, &other.misread);
-        add(&mut self.clear, &other.clear);
-    }
-
     /// The gate must meet every sort of claim that is clear or isn't, under order 2
     /// every sort of claim with a missing record, and jobs that show each wrong
     /// reading.
@@ -166,20 +154,6 @@ impl Totals {
         for name in names {
             self.differ("the gate", &format!("{name}: never met"));
         }
-    }
-
-    /// The last lines: what was met, and how many differ.
-    pub fn summary(&self) {
-        let rows: Vec<String> = (1..=8).map(|number| format!("{number}: {}", self.refused[number])).collect();
-        println!("refused by number {}", rows.join(", "));
-        println!("verdicts true {}, false {}, undefined {}", self.verdicts[1], self.verdicts[2], self.verdicts[3]);
-        println!("{} jobs with missing records: {}", self.missing_jobs, listed(&SORTS, &self.missing));
-        println!("wrong readings shown: {}", listed(&MISREADINGS.map(|(name, _)| name), &self.misread));
-        println!("claims by order 9: {}", listed(clear_sorts::sorts(Orders::in_force()), &self.clear));
-        if self.differences > 0 {
-            println!("a made job alone: compare made KIND SEED 1");
-        }
-        println!("{} jobs in {} calls compared, {} differences", self.jobs, self.calls, self.differences);
     }
 
     fn count_verdicts(&mut self, bytes: &[u8], job: &Job, model: &[Verdict]) {
@@ -200,5 +174,47 @@ impl Totals {
             Ok(_) => self.accepted += 1,
             Err(refusal) => self.refused[refusal.number as usize] += 1,
         }
+    }
+}
+
+impl Counted for Totals {
+    fn add(&mut self, other: &Self) {
+        self.jobs += other.jobs;
+        self.calls += other.calls;
+        self.accepted += other.accepted;
+        self.differences += other.differences;
+        self.missing_jobs += other.missing_jobs;
+        add(&mut self.refused, &other.refused);
+        add(&mut self.verdicts, &other.verdicts);
+        add(&mut self.missing, &other.missing);
+        add(&mut self.misread, &other.misread);
+        add(&mut self.clear, &other.clear);
+    }
+
+    fn counts(&self) -> String {
+        format!(
+            "{} jobs, {} accepted, {} with missing records, {} refused",
+            self.jobs,
+            self.accepted,
+            self.missing_jobs,
+            self.jobs - self.accepted
+        )
+    }
+
+    fn differences(&self) -> usize {
+        self.differences
+    }
+
+    fn summary(&self) {
+        let rows: Vec<String> = (1..=8).map(|number| format!("{number}: {}", self.refused[number])).collect();
+        println!("refused by number {}", rows.join(", "));
+        println!("verdicts true {}, false {}, undefined {}", self.verdicts[1], self.verdicts[2], self.verdicts[3]);
+        println!("{} jobs with missing records: {}", self.missing_jobs, listed(&SORTS, &self.missing));
+        println!("wrong readings shown: {}", listed(&MISREADINGS.map(|(name, _)| name), &self.misread));
+        println!("claims by order 9: {}", listed(clear_sorts::sorts(Orders::in_force()), &self.clear));
+        if self.differences > 0 {
+            println!("a made job alone: compare made KIND SEED 1");
+        }
+        println!("{} jobs in {} calls compared, {} differences", self.jobs, self.calls, self.differences);
     }
 }

@@ -8,18 +8,20 @@ mod faults;
 mod lengths;
 mod library;
 mod mapped;
+mod parts;
 
 use std::io::{Read, Write};
+use std::ops::Range;
 use std::process::exit;
-use std::time::Instant;
 
-use arguments::{kinds_named, refuse};
+use arguments::{kinds_named, refuse, seeds};
 use compare::Totals;
 use counts::missing_unmet;
 use oracle::checks::{part_input, MAX_INPUT_BYTES};
 use oracle::edges::{edge_cases, Expected};
 use oracle::jobs::generate;
 use oracle::orders::Orders;
+use parts::{part, run};
 
 const USAGE: &str = "\
 compare                          all that the gate runs
@@ -78,32 +80,14 @@ fn compare_edges(totals: &mut Totals) {
     }
 }
 
-fn compare_made(totals: &mut Totals, kind: &str, from: u64, count: u64) {
-    for seed in from..from + count {
+fn compare_made(totals: &mut Totals, kind: &str, seeds: Range<u64>) {
+    for seed in seeds {
         let Some(input) = generate(kind, seed, Orders::in_force()) else {
             eprintln!("compare: no kind is called {kind}");
             exit(2);
         };
         compare_input(totals, &format!("{kind} {seed}"), &input);
     }
-}
-
-/// Runs one part and says what it compared.
-fn part(all: &mut Totals, title: &str, work: impl FnOnce(&mut Totals)) -> Totals {
-    let start = Instant::now();
-    let mut totals = Totals::default();
-    work(&mut totals);
-    println!(
-        "{title}: {} jobs, {} accepted, {} with missing records, {} refused, {} differences, {:.1} s",
-        totals.jobs,
-        totals.accepted,
-        totals.missing_jobs,
-        totals.jobs - totals.accepted,
-        totals.differences,
-        start.elapsed().as_secs_f64()
-    );
-    all.add(&totals);
-    totals
 }
 
 fn compare_gate(all: &mut Totals) {
@@ -113,7 +97,7 @@ fn compare_gate(all: &mut Totals) {
     part(all, "long jobs", lengths::long_jobs);
     part(all, "long outputs", lengths::long_outputs);
     for (kind, count) in GATE {
-        let made = part(all, kind, |totals| compare_made(totals, kind, 0, count));
+        let made = part(all, kind, |totals| compare_made(totals, kind, 0..count));
         if let Some(fault) = missing_unmet(kind, made.accepted, made.missing_jobs) {
             all.differ("the gate", &fault);
         }
@@ -140,30 +124,33 @@ fn print_verdicts() {
     std::io::stdout().lock().write_all(out.as_bytes()).expect("standard output can be written");
 }
 
-fn main() {
-    let arguments: Vec<String> = std::env::args().skip(1).collect();
-    let words: Vec<&str> = arguments.iter().map(String::as_str).collect();
-    let mut all = Totals::default();
-    match words.as_slice() {
-        [] => compare_gate(&mut all),
-        ["edges"] => _ = part(&mut all, "edges", compare_edges),
+/// Runs what the words after the program's name say.
+fn command(all: &mut Totals, words: &[&str]) {
+    match words {
+        [] => compare_gate(all),
+        ["edges"] => _ = part(all, "edges", compare_edges),
         ["faults"] => {
-            part(&mut all, "single faults", faults::single_faults);
-            part(&mut all, "double faults", faults::double_faults);
+            part(all, "single faults", faults::single_faults);
+            part(all, "double faults", faults::double_faults);
         }
         ["lengths"] => {
-            part(&mut all, "long jobs", lengths::long_jobs);
-            part(&mut all, "long outputs", lengths::long_outputs);
+            part(all, "long jobs", lengths::long_jobs);
+            part(all, "long outputs", lengths::long_outputs);
         }
         ["made", kinds, from, count] => {
-            let (Ok(from), Ok(count)) = (from.parse(), count.parse()) else { refuse(USAGE) };
+            let seeds = seeds(from, count, USAGE);
             for kind in kinds_named(kinds, &GATE) {
-                part(&mut all, &kind, |totals| compare_made(totals, &kind, from, count));
+                part(all, &kind, |totals| compare_made(totals, &kind, seeds.clone()));
             }
         }
-        ["verdicts"] => return print_verdicts(),
+        ["verdicts"] => {
+            print_verdicts();
+            exit(0);
+        }
         _ => refuse(USAGE),
     }
-    all.summary();
-    exit(i32::from(all.differences > 0));
+}
+
+fn main() {
+    run(command)
 }

@@ -5,7 +5,7 @@ use oracle::lines::{held, job_of_text, text_of_job};
 use oracle::lines_sorts::{sort_of, Sort};
 use oracle::orders::Orders;
 
-use crate::codes::{code_of, said};
+use crate::codes::fault_of_call;
 use crate::lent::{Input, Output};
 use crate::library;
 use crate::totals::Totals;
@@ -29,26 +29,6 @@ fn interesting_lengths(job: &Result<Vec<u8>, Refusal>) -> Vec<usize> {
     lengths
 }
 
-/// One call into so many bytes; what differs from this answer.
-pub fn fault_of_call<T: AsRef<[u8]>>(
-    text: &Input,
-    output: &mut Output,
-    length: usize,
-    answer: &Result<T, Refusal>,
-) -> Option<String> {
-    let code = library::job_of_lines(text.bytes(), output.lend(length));
-    let written = answer.as_ref().map_or(&[][..], |job| job.as_ref());
-    let right = code_of(answer);
-    let fault = if code != right {
-        Some(format!("{}, expected {}", said(code), said(right)))
-    } else if text.altered() {
-        Some("the text was altered".to_string())
-    } else {
-        output.difference(length, written)
-    };
-    fault.map(|fault| format!("into {length} bytes: {fault}"))
-}
-
 /// A job that came out is accepted, and its own lines give it again.
 fn fault_of_way_back(job: &[u8], output: &mut Output) -> Option<String> {
     let read = match Job::check(job, Orders::in_force()) {
@@ -57,7 +37,7 @@ fn fault_of_way_back(job: &[u8], output: &mut Output) -> Option<String> {
     };
     match text_of_job(&read) {
         None => Some("the job has a missing record".to_string()),
-        Some(text) => fault_of_call(&lend_text(&text), output, job.len(), &Ok(job))
+        Some(text) => fault_of_call(library::job_of_lines, &lend_text(&text), output, job.len(), &Ok(job))
             .map(|fault| format!("the lines of its job, {fault}")),
     }
 }
@@ -72,7 +52,7 @@ pub fn compare(totals: &mut Totals, output: &mut Output, name: &str, text: &[u8]
         let answer = job.as_deref().map_err(|&refusal| refusal).and_then(|job| held(job, length));
         let short = answer.is_err() && job.is_ok();
         totals.count_call(if short { Sort::Short } else { sort });
-        let mut fault = fault_of_call(&lent, output, length, &answer);
+        let mut fault = fault_of_call(library::job_of_lines, &lent, output, length, &answer);
         if fault.is_none() && answer.is_ok_and(|job| job.len() == length) {
             let came_out = output.bytes(length).to_vec();
             totals.read_back += 1;

@@ -10,24 +10,28 @@ mod codes;
 #[path = "../compare/counts.rs"]
 #[allow(dead_code)]
 mod counts;
+mod differing;
 mod lengths;
 mod lent;
 mod library;
 #[path = "../compare/mapped.rs"]
 mod mapped;
+#[path = "../compare/parts.rs"]
+mod parts;
 mod process;
 mod program;
 mod totals;
 
-use std::process::exit;
-use std::time::Instant;
+use std::ops::Range;
 
-use arguments::refuse;
-use beside::{compare, fault_of_call, lend_text, MOST_OUTPUT};
+use arguments::{refuse, seeds};
+use beside::{compare, lend_text, MOST_OUTPUT};
+use codes::fault_of_call;
 use lent::Output;
 use oracle::lines_edges::lines_edges;
 use oracle::lines_sorts::sort_of;
 use oracle::texts::generate_text;
+use parts::{part, run};
 use process::Programs;
 use totals::Totals;
 
@@ -54,15 +58,17 @@ fn compare_edges(totals: &mut Totals) {
         let (name, text) = (format!("edge {number}"), &edge.call.text);
         compare(totals, &mut output, &name, text);
         totals.count_call(sort_of(text, &edge.expected));
-        if let Some(fault) = fault_of_call(&lend_text(text), &mut output, edge.call.output, &edge.expected) {
+        if let Some(fault) =
+            fault_of_call(library::job_of_lines, &lend_text(text), &mut output, edge.call.output, &edge.expected)
+        {
             totals.differ(&name, text, &format!("{}: {fault}", edge.name));
         }
     }
 }
 
-fn compare_made(totals: &mut Totals, from: u64, count: u64) {
+fn compare_made(totals: &mut Totals, seeds: Range<u64>) {
     let mut output = Output::new(MOST_OUTPUT);
-    for seed in from..from + count {
+    for seed in seeds {
         compare(totals, &mut output, &format!("made {seed}"), &generate_text(seed));
     }
 }
@@ -73,26 +79,10 @@ fn run_edges(totals: &mut Totals, programs: &Programs) {
     }
 }
 
-fn run_made(totals: &mut Totals, programs: &Programs, from: u64, count: u64) {
-    for seed in from..from + count {
+fn run_made(totals: &mut Totals, programs: &Programs, seeds: Range<u64>) {
+    for seed in seeds {
         program::compare(totals, programs, &format!("made {seed}"), &generate_text(seed));
     }
-}
-
-/// Runs one part and says what it compared.
-fn part(all: &mut Totals, title: &str, work: impl FnOnce(&mut Totals)) {
-    let start = Instant::now();
-    let mut totals = Totals::default();
-    work(&mut totals);
-    println!(
-        "{title}: {} texts, {} calls, {} runs, {} differences, {:.1} s",
-        totals.texts,
-        totals.calls,
-        totals.runs(),
-        totals.differences,
-        start.elapsed().as_secs_f64()
-    );
-    all.add(&totals);
 }
 
 fn compare_lengths(all: &mut Totals) {
@@ -110,35 +100,31 @@ fn compare_gate(all: &mut Totals) {
     let programs = Programs::find();
     part(all, "edges", compare_edges);
     compare_lengths(all);
-    part(all, "made", |totals| compare_made(totals, 0, GATE_CALLS));
+    part(all, "made", |totals| compare_made(totals, 0..GATE_CALLS));
     run_programs(all, &programs);
-    part(all, "makejob, made", |totals| run_made(totals, &programs, 0, GATE_RUNS));
+    part(all, "makejob, made", |totals| run_made(totals, &programs, 0..GATE_RUNS));
     all.expect_all_met();
 }
 
-fn main() {
-    let arguments: Vec<String> = std::env::args().skip(1).collect();
-    let words: Vec<&str> = arguments.iter().map(String::as_str).collect();
-    let mut all = Totals::default();
-    let seeds = |from: &str, count: &str| match (from.parse(), count.parse()) {
-        (Ok(from), Ok(count)) => (from, count),
-        _ => refuse(USAGE),
-    };
-    match words.as_slice() {
-        [] => compare_gate(&mut all),
-        ["edges"] => part(&mut all, "edges", compare_edges),
-        ["lengths"] => compare_lengths(&mut all),
+/// Runs what the words after the program's name say.
+fn command(all: &mut Totals, words: &[&str]) {
+    match words {
+        [] => compare_gate(all),
+        ["edges"] => _ = part(all, "edges", compare_edges),
+        ["lengths"] => compare_lengths(all),
         ["made", from, count] => {
-            let (from, count) = seeds(from, count);
-            part(&mut all, "made", |totals| compare_made(totals, from, count));
+            let seeds = seeds(from, count, USAGE);
+            part(all, "made", |totals| compare_made(totals, seeds));
         }
-        ["program"] => run_programs(&mut all, &Programs::find()),
+        ["program"] => run_programs(all, &Programs::find()),
         ["program", from, count] => {
-            let (from, count) = seeds(from, count);
-            part(&mut all, "makejob, made", |totals| run_made(totals, &Programs::find(), from, count));
+            let seeds = seeds(from, count, USAGE);
+            part(all, "makejob, made", |totals| run_made(totals, &Programs::find(), seeds));
         }
         _ => refuse(USAGE),
     }
-    all.summary();
-    exit(i32::from(all.differences > 0));
+}
+
+fn main() {
+    run(command)
 }

@@ -3,6 +3,8 @@
 use std::io::Write;
 use std::process::{exit, Child, Command, Output, Stdio};
 
+use oracle::checks::Refusal;
+
 /// A program that takes longer than so many seconds is ended.
 const SECONDS: &str = "120";
 
@@ -39,6 +41,26 @@ pub fn outputs<const N: usize>(bytes: &[u8], mut programs: [Child; N]) -> [Outpu
         scope.spawn(move || drop(input.write_all(bytes)));
         programs.map(|program| program.wait_with_output().expect("a program ends"))
     })
+}
+
+/// What is wrong with what a program wrote, where `answer` is right and `says` tells
+/// whether words say a refusal.
+pub fn fault_of_output(
+    answer: &Result<Vec<u8>, Refusal>,
+    output: &Output,
+    says: impl FnOnce(&str, &Refusal) -> bool,
+) -> Option<String> {
+    let said = String::from_utf8_lossy(&output.stderr);
+    match answer {
+        _ if !output.status.success() => Some(format!("it ended with {}", output.status)),
+        Ok(right) if output.stdout != *right => {
+            let at = right.iter().zip(&output.stdout).take_while(|(right, byte)| right == byte).count();
+            Some(format!("{} bytes instead of {}, byte {at} differs; {said:?}", output.stdout.len(), right.len()))
+        }
+        Ok(_) => (!said.is_empty()).then(|| format!("on standard error it writes {said:?}")),
+        Err(_) if !output.stdout.is_empty() => Some(format!("refused, it writes {} bytes", output.stdout.len())),
+        Err(refusal) => (!says(&said, refusal)).then(|| format!("it says {said:?}, expected {refusal:?} in one line")),
+    }
 }
 
 impl Programs {

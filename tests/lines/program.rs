@@ -1,7 +1,7 @@
 //! The program makejob: its job and its words beside the oracle's job and refusal.
 
 use std::fs::File;
-use std::process::{Output, Stdio};
+use std::process::Stdio;
 
 use oracle::checks::Refusal;
 use oracle::lines::job_of_text;
@@ -9,7 +9,7 @@ use oracle::lines_sorts::sort_of;
 use oracle::listing::listing;
 use oracle::orders::Orders;
 
-use crate::process::Programs;
+use crate::process::{fault_of_output, Programs};
 use crate::totals::Totals;
 
 /// The most that the program reads.
@@ -28,22 +28,9 @@ fn line_named(said: &str) -> Option<usize> {
     numbers.flatten().find(|digits| !digits.is_empty())?.parse().ok()
 }
 
-/// What is wrong with what the program writes for a text.
-fn fault_of(answer: &Result<Vec<u8>, Refusal>, output: &Output) -> Option<String> {
-    let said = String::from_utf8_lossy(&output.stderr);
-    match answer {
-        _ if !output.status.success() => Some(format!("it ended with {}", output.status)),
-        Ok(job) if output.stdout != *job => {
-            let at = job.iter().zip(&output.stdout).take_while(|(right, byte)| right == byte).count();
-            Some(format!("{} bytes instead of {}, byte {at} differs; {said:?}", output.stdout.len(), job.len()))
-        }
-        Ok(_) => (!said.is_empty()).then(|| format!("on standard error it writes {said:?}")),
-        Err(_) if !output.stdout.is_empty() => Some(format!("refused, it writes {} bytes", output.stdout.len())),
-        Err(refusal) => {
-            let right = is_one_line(&said) && line_named(&said) == Some(refusal.place);
-            (!right).then(|| format!("it says {said:?}, expected a line on line {}", refusal.place))
-        }
-    }
+/// Whether a refusal is said with its line.
+fn says(said: &str, refusal: &Refusal) -> bool {
+    is_one_line(said) && line_named(said) == Some(refusal.place)
 }
 
 /// The listing of a short job that comes through a pipe.
@@ -62,7 +49,7 @@ pub fn compare(totals: &mut Totals, programs: &Programs, name: &str, text: &[u8]
     let answer = job_of_text(text);
     totals.count_text(text);
     totals.run[sort_of(text, &answer) as usize] += 1;
-    if let Some(fault) = fault_of(&answer, &programs.run(text, Stdio::piped())) {
+    if let Some(fault) = fault_of_output(&answer, &programs.run(text, Stdio::piped()), says) {
         totals.differ(name, text, &fault);
     } else if let Ok(job) = answer {
         if job.len() <= SHORT_JOB {

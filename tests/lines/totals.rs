@@ -1,16 +1,10 @@
 //! What was compared and what differs.
 
-use std::path::Path;
-
 use oracle::lines_sorts::{Met, Sort, SORTS};
 
 use crate::counts::{add, listed, unmet};
-
-/// Where the text of a difference is kept.
-const FOLDER: &str = "target/tests";
-
-/// At most this many differences are printed.
-const PRINTED: usize = 20;
+use crate::differing;
+use crate::parts::Counted;
 
 #[derive(Default)]
 pub struct Totals {
@@ -50,24 +44,7 @@ impl Totals {
     /// A difference; its text is kept.
     pub fn differ(&mut self, name: &str, text: &[u8], what: &str) {
         self.differences += 1;
-        if self.differences <= PRINTED {
-            let path = Path::new(FOLDER).join(format!("lines-{}.rules", name.replace(' ', "-")));
-            let kept = std::fs::write(&path, text).map_or_else(|error| error.to_string(), |()| "kept".to_string());
-            println!("differs: {name}: {what} ({}: {kept})", path.display());
-        }
-    }
-
-    pub fn add(&mut self, other: &Totals) {
-        self.texts += other.texts;
-        self.longest = self.longest.max(other.longest);
-        self.calls += other.calls;
-        self.read_back += other.read_back;
-        self.listed += other.listed;
-        self.too_long += other.too_long;
-        self.unwritten += other.unwritten;
-        self.differences += other.differences;
-        add(&mut self.called, &other.called);
-        add(&mut self.run, &other.run);
+        differing::say(self.differences, name, what, text, "lines", "rules");
     }
 
     /// The gate must meet every sort in calls, and every one but 16, the last, in
@@ -83,9 +60,31 @@ impl Totals {
             println!("differs: the gate: {name}: never met");
         }
     }
+}
 
-    /// The last lines: what was met, and how many differ.
-    pub fn summary(&self) {
+impl Counted for Totals {
+    fn add(&mut self, other: &Self) {
+        self.texts += other.texts;
+        self.longest = self.longest.max(other.longest);
+        self.calls += other.calls;
+        self.read_back += other.read_back;
+        self.listed += other.listed;
+        self.too_long += other.too_long;
+        self.unwritten += other.unwritten;
+        self.differences += other.differences;
+        add(&mut self.called, &other.called);
+        add(&mut self.run, &other.run);
+    }
+
+    fn counts(&self) -> String {
+        format!("{} texts, {} calls, {} runs", self.texts, self.calls, self.runs())
+    }
+
+    fn differences(&self) -> usize {
+        self.differences
+    }
+
+    fn summary(&self) {
         for (what, met) in [("calls", &self.called), ("runs of makejob", &self.run)] {
             if *met != Met::default() {
                 println!("{what} by sort: {}", listed(&SORTS, met));

@@ -8,17 +8,20 @@ mod beside;
 #[path = "../compare/counts.rs"]
 mod counts;
 mod inputs;
+#[path = "../compare/parts.rs"]
+mod parts;
 mod program;
 mod totals;
 
+use std::ops::Range;
 use std::process::exit;
 use std::sync::atomic::{AtomicU64, Ordering};
-use std::time::Instant;
 
-use arguments::{kinds_named, refuse};
+use arguments::{kinds_named, refuse, seeds};
 use counts::missing_unmet;
 use oracle::edges::edge_cases;
 use oracle::orders::Orders;
+use parts::{part, run, Counted};
 use program::Program;
 use totals::Totals;
 
@@ -62,60 +65,46 @@ const MOST_DIFFERENCES: usize = 10;
 
 const THREADS: usize = 2;
 
-/// Lists numbers from..from + count in threads.
-fn in_threads(from: u64, count: u64, list: impl Fn(&mut Totals, u64) + Sync) -> Totals {
-    let next = AtomicU64::new(from);
+/// Lists these numbers in threads.
+fn in_threads(totals: &mut Totals, numbers: Range<u64>, list: impl Fn(&mut Totals, u64) + Sync) {
+    let next = AtomicU64::new(numbers.start);
     let one_thread = || {
         let mut totals = Totals::default();
         while totals.differences < MOST_DIFFERENCES {
             let number = next.fetch_add(1, Ordering::Relaxed);
-            if number >= from + count {
+            if number >= numbers.end {
                 break;
             }
             list(&mut totals, number);
         }
         totals
     };
-    let mut totals = Totals::default();
     std::thread::scope(|scope| {
         let threads: Vec<_> = (0..THREADS).map(|_| scope.spawn(one_thread)).collect();
         for thread in threads {
             totals.add(&thread.join().expect("a thread ends by itself"));
         }
     });
-    totals
 }
 
-/// Runs one part and says what it listed.
-fn part(all: &mut Totals, title: &str, from: u64, count: u64, list: impl Fn(&mut Totals, u64) + Sync) -> Totals {
+/// Lists one part, unless too much differs already.
+fn list_part(all: &mut Totals, title: &str, numbers: Range<u64>, list: impl Fn(&mut Totals, u64) + Sync) -> Totals {
     if all.differences >= MOST_DIFFERENCES {
         return Totals::default();
     }
-    let start = Instant::now();
-    let totals = in_threads(from, count, list);
-    println!(
-        "{title}: {} inputs, {} accepted, {} with missing records, {} turns, {} differences, {:.1} s",
-        totals.inputs,
-        totals.accepted,
-        totals.missing_jobs,
-        totals.turns(),
-        totals.differences,
-        start.elapsed().as_secs_f64()
-    );
-    all.add(&totals);
-    totals
+    part(all, title, |totals| in_threads(totals, numbers, list))
 }
 
 fn list_edges(all: &mut Totals) {
     let (edges, program) = (edge_cases(Orders::in_force()), Program::find());
-    part(all, "edges", 0, edges.len() as u64, |totals, number| {
+    list_part(all, "edges", 0..edges.len() as u64, |totals, number| {
         beside::compare(totals, &program, &format!("edge {number}"), &edges[number as usize].bytes);
     });
 }
 
-fn list_made(all: &mut Totals, kind: &str, from: u64, count: u64) -> Totals {
+fn list_made(all: &mut Totals, kind: &str, seeds: Range<u64>) -> Totals {
     let program = Program::find();
-    part(all, kind, from, count, |totals, seed| {
+    list_part(all, kind, seeds, |totals, seed| {
         let Some(input) = inputs::made(kind, seed) else {
             eprintln!("listing: no kind is called {kind}");
             exit(2);
@@ -127,7 +116,7 @@ fn list_made(all: &mut Totals, kind: &str, from: u64, count: u64) -> Totals {
 fn list_gate(all: &mut Totals) {
     list_edges(all);
     for (kind, count) in GATE {
-        let made = list_made(all, kind, 0, count);
+        let made = list_made(all, kind, 0..count);
         if let Some(fault) = missing_unmet(kind, made.accepted, made.missing_jobs) {
             all.differ("the gate", &fault);
         }
@@ -137,21 +126,21 @@ fn list_gate(all: &mut Totals) {
     }
 }
 
-fn main() {
-    let arguments: Vec<String> = std::env::args().skip(1).collect();
-    let words: Vec<&str> = arguments.iter().map(String::as_str).collect();
-    let mut all = Totals::default();
-    match words.as_slice() {
-        [] => list_gate(&mut all),
-        ["edges"] => list_edges(&mut all),
+/// Runs what the words after the program's name say.
+fn command(all: &mut Totals, words: &[&str]) {
+    match words {
+        [] => list_gate(all),
+        ["edges"] => list_edges(all),
         ["made", kinds, from, count] => {
-            let (Ok(from), Ok(count)) = (from.parse(), count.parse()) else { refuse(USAGE) };
+            let seeds = seeds(from, count, USAGE);
             for kind in kinds_named(kinds, &GATE) {
-                list_made(&mut all, &kind, from, count);
+                list_made(all, &kind, seeds.clone());
             }
         }
         _ => refuse(USAGE),
     }
-    all.summary();
-    exit(i32::from(all.differences > 0));
+}
+
+fn main() {
+    run(command)
 }

@@ -7,6 +7,7 @@ use oracle::orders::{Missing, Orders, Skip};
 use oracle::turns::KINDS;
 
 use crate::counts::{add, listed, unmet};
+use crate::parts::Counted;
 
 const VALUES: [&str; 4] = ["true", "false", "undefined", "unopened"];
 /// What all but the last of them say.
@@ -73,18 +74,6 @@ impl Totals {
         self.kinds.iter().sum()
     }
 
-    pub fn add(&mut self, other: &Totals) {
-        self.inputs += other.inputs;
-        self.accepted += other.accepted;
-        self.differences += other.differences;
-        add(&mut self.refused, &other.refused);
-        add(&mut self.kinds, &other.kinds);
-        add(&mut self.values, &other.values);
-        self.passed_over += other.passed_over;
-        self.missing_jobs += other.missing_jobs;
-        add(&mut self.missing, &other.missing);
-    }
-
     /// The gate must meet every kind of turn, every value and every refusal, under
     /// order 2 every sort of claim with a missing record, and under order 5 claims
     /// that were led to and passed over.
@@ -102,9 +91,36 @@ impl Totals {
             self.differ("the gate", &format!("{name} was never met"));
         }
     }
+}
 
-    /// The last lines: what was met, and how many differ.
-    pub fn summary(&self) {
+impl Counted for Totals {
+    fn add(&mut self, other: &Self) {
+        self.inputs += other.inputs;
+        self.accepted += other.accepted;
+        self.differences += other.differences;
+        add(&mut self.refused, &other.refused);
+        add(&mut self.kinds, &other.kinds);
+        add(&mut self.values, &other.values);
+        self.passed_over += other.passed_over;
+        self.missing_jobs += other.missing_jobs;
+        add(&mut self.missing, &other.missing);
+    }
+
+    fn counts(&self) -> String {
+        format!(
+            "{} inputs, {} accepted, {} with missing records, {} turns",
+            self.inputs,
+            self.accepted,
+            self.missing_jobs,
+            self.turns()
+        )
+    }
+
+    fn differences(&self) -> usize {
+        self.differences
+    }
+
+    fn summary(&self) {
         println!("turns: {}", listed(&KINDS, &self.kinds));
         println!("claim lines: {} ({} of them led to)", listed(&VALUES, &self.values), self.passed_over);
         println!("{} inputs with missing records: {}", self.missing_jobs, listed(&SORTS, &self.missing));

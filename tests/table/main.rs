@@ -21,17 +21,20 @@ mod met;
 mod missing;
 mod newest;
 mod others;
+#[path = "../compare/parts.rs"]
+mod parts;
 mod single;
 mod totals;
 mod words;
 
+use std::ops::Range;
 use std::process::exit;
-use std::time::Instant;
 
-use arguments::{kinds_named, refuse};
+use arguments::{kinds_named, refuse, seeds};
 use counts::missing_unmet;
 use oracle::jobs::generate;
 use oracle::orders::Orders;
+use parts::{part, run};
 use totals::Totals;
 
 const USAGE: &str = "\
@@ -72,8 +75,8 @@ const GATE: [(&str, u64); 18] = [
 /// In the gate a list ends early when it has cost about so many steps.
 const GATE_WORK: usize = 30_000_000;
 
-fn compare_made(totals: &mut Totals, kind: &str, from: u64, count: u64, work: usize) {
-    for seed in from..from + count {
+fn compare_made(totals: &mut Totals, kind: &str, seeds: Range<u64>, work: usize) {
+    for seed in seeds {
         let name = format!("{kind} {seed}");
         if kind == "words" {
             words::compare_words(totals, &name, seed);
@@ -92,25 +95,6 @@ fn compare_made(totals: &mut Totals, kind: &str, from: u64, count: u64, work: us
     }
 }
 
-/// Runs one part and says what it compared.
-fn part(all: &mut Totals, title: &str, work: impl FnOnce(&mut Totals)) -> Totals {
-    let start = Instant::now();
-    let mut totals = Totals::default();
-    work(&mut totals);
-    println!(
-        "{title}: {} jobs, {} with missing records, {} lists to their end, {} calls, {} turns, {} differences, {:.1} s",
-        totals.jobs,
-        totals.missing_jobs,
-        totals.finished,
-        totals.calls,
-        totals.turns(),
-        totals.differences,
-        start.elapsed().as_secs_f64()
-    );
-    all.add(&totals);
-    totals
-}
-
 fn compare_lengths(all: &mut Totals) {
     part(all, "long jobs", lengths::long_jobs);
     part(all, "long tables", lengths::long_tables);
@@ -120,7 +104,7 @@ fn compare_gate(all: &mut Totals) {
     compare_lengths(all);
     part(all, "edge cases of orders", single::compare_order_edges);
     for (kind, count) in GATE {
-        let made = part(all, kind, |totals| compare_made(totals, kind, 0, count, GATE_WORK));
+        let made = part(all, kind, |totals| compare_made(totals, kind, 0..count, GATE_WORK));
         if kind == "dense" {
             lent_runs::expect_enough(all, &made);
         }
@@ -131,27 +115,27 @@ fn compare_gate(all: &mut Totals) {
     all.expect_all_met();
 }
 
-fn main() {
-    let arguments: Vec<String> = std::env::args().skip(1).collect();
-    let words: Vec<&str> = arguments.iter().map(String::as_str).collect();
-    let mut all = Totals::default();
-    match words.as_slice() {
-        [] => compare_gate(&mut all),
-        ["lengths"] => compare_lengths(&mut all),
-        ["orders"] => _ = part(&mut all, "edge cases of orders", single::compare_order_edges),
+/// Runs what the words after the program's name say.
+fn command(all: &mut Totals, words: &[&str]) {
+    match words {
+        [] => compare_gate(all),
+        ["lengths"] => compare_lengths(all),
+        ["orders"] => _ = part(all, "edge cases of orders", single::compare_order_edges),
         ["made", kinds, from, count, rest @ ..] => {
-            let (Ok(from), Ok(count)) = (from.parse(), count.parse()) else { refuse(USAGE) };
+            let seeds = seeds(from, count, USAGE);
             let work = match rest {
                 [] => GATE_WORK,
                 ["whole"] => usize::MAX,
                 _ => refuse(USAGE),
             };
             for kind in kinds_named(kinds, &GATE) {
-                part(&mut all, &kind, |totals| compare_made(totals, &kind, from, count, work));
+                part(all, &kind, |totals| compare_made(totals, &kind, seeds.clone(), work));
             }
         }
         _ => refuse(USAGE),
     }
-    all.summary();
-    exit(i32::from(all.differences > 0));
+}
+
+fn main() {
+    run(command)
 }

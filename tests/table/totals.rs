@@ -12,6 +12,7 @@ use crate::failed::{SORTS, SORTS_OF_LISTS};
 use crate::kept;
 use crate::met::Met;
 use crate::newest;
+use crate::parts::Counted;
 
 /// At most this many differences are printed.
 const PRINTED: usize = 20;
@@ -116,24 +117,6 @@ impl Totals {
         self.kinds.iter().sum()
     }
 
-    pub fn add(&mut self, other: &Totals) {
-        self.jobs += other.jobs;
-        self.missing_jobs += other.missing_jobs;
-        self.finished += other.finished;
-        self.calls += other.calls;
-        self.differences += other.differences;
-        add(&mut self.kinds, &other.kinds);
-        add(&mut self.readings, &other.readings);
-        add(&mut self.refused, &other.refused);
-        add(&mut self.bad_words, &other.bad_words);
-        add(&mut self.bad_newest, &other.bad_newest);
-        add(&mut self.before_newest, &other.before_newest);
-        self.in_lists.add(&other.in_lists);
-        self.on_tables.add(&other.on_tables);
-        add(&mut self.runs_with, &other.runs_with);
-        add(&mut self.kept, &other.kept);
-    }
-
     /// Counts the kinds that a run's turns had.
     pub fn count_run(&mut self, expected: &Given) {
         add(&mut self.runs_with, &expected.tally.map(|turns| usize::from(turns > 0)));
@@ -186,9 +169,43 @@ impl Totals {
             self.differ("the gate", &format!("{name} was never met"));
         }
     }
+}
 
-    /// The last lines: what was met, and how many differ.
-    pub fn summary(&self) {
+impl Counted for Totals {
+    fn add(&mut self, other: &Self) {
+        self.jobs += other.jobs;
+        self.missing_jobs += other.missing_jobs;
+        self.finished += other.finished;
+        self.calls += other.calls;
+        self.differences += other.differences;
+        add(&mut self.kinds, &other.kinds);
+        add(&mut self.readings, &other.readings);
+        add(&mut self.refused, &other.refused);
+        add(&mut self.bad_words, &other.bad_words);
+        add(&mut self.bad_newest, &other.bad_newest);
+        add(&mut self.before_newest, &other.before_newest);
+        self.in_lists.add(&other.in_lists);
+        self.on_tables.add(&other.on_tables);
+        add(&mut self.runs_with, &other.runs_with);
+        add(&mut self.kept, &other.kept);
+    }
+
+    fn counts(&self) -> String {
+        format!(
+            "{} jobs, {} with missing records, {} lists to their end, {} calls, {} turns",
+            self.jobs,
+            self.missing_jobs,
+            self.finished,
+            self.calls,
+            self.turns()
+        )
+    }
+
+    fn differences(&self) -> usize {
+        self.differences
+    }
+
+    fn summary(&self) {
         println!("turns: {}", listed(&KINDS, &self.kinds));
         println!("readings: {}", listed(&READINGS, &self.readings));
         let rows: Vec<String> = (1..=12).map(|number| format!("{number}: {}", self.refused[number])).collect();
