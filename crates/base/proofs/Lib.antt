@@ -13,3 +13,4 @@ pub mod Paths
 pub mod Acyclic
 pub mod Counts
 pub mod SumParts
+pub mod Zeros

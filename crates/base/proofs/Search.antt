@@ -1,5 +1,6 @@
 -- Looking through the numbers below a bound. Assumes nothing.
-use mathlib.Core.Path.{_≡_}
+use mathlib.Core.Path.{_≡_, refl}
+use mathlib.Core.Bool.{Bool, true, false}
 use Prim.Native.Nat.{ℕ, zero, suc, _≤_, _<_}
 use native.Mathlib.Omega.{arith}
 use native.Mathlib.Nat.{le-refl}
@@ -48,3 +49,17 @@ module _ (P : ℕ → Type 0) (p? : (x : ℕ) → Dec (P x)) where
     pub greatest : (a : ℕ) → Best P f a
     greatest zero = none (λ x h. absurd (omega arith))
     greatest (suc a) = best-step a (p? a) (greatest a)
+
+-- the first number below n at which a test holds, or none
+pub data First (test : ℕ → Bool) (n : ℕ) : Type 0 where
+  first : (i : ℕ) → i < n → ((k : ℕ) → k < i → test k ≡ false) → test i ≡ true → First test n
+  none : ((k : ℕ) → k < n → test k ≡ false) → First test n
+
+pub first-of : (test : ℕ → Bool) (n : ℕ) → First test n
+first-of test zero = none (λ k l. absurd (omega arith))
+first-of test (suc n) = go (test n) refl (first-of test n)
+  where
+    go : (b : Bool) → test n ≡ b → First test n → First test (suc n)
+    go b e (first i l f h) = first i (omega arith) f h
+    go true e (none f) = first n (omega arith) f e
+    go false e (none f) = none (below-suc (λ k. test k ≡ false) n f e)

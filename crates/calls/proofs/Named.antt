@@ -1,20 +1,17 @@
 -- The claims that questions name or lead to, by rules (Asked) and by places (Led). Assumes nothing.
 --   led-asked   from places to rules;    on-claims   the clause `claims` of Promise
-use mathlib.Core.Path.{_≡_, refl, sym, _∙_, ap, subst}
-use mathlib.Core.List.{List, [], _∷_, List·Memᴰ·head, List·Memᴰ·tail, Memᴰ·of-map}
-use Prim.Native.Nat.{ℕ, zero, suc, _<_}
+use mathlib.Core.Path.{_≡_, sym, _∙_, ap, subst}
+use mathlib.Core.List.{List, Memᴰ·of-map}
+use Prim.Native.Nat.{ℕ, _<_}
 use native.Mathlib.Omega.{arith}
-use lib.ListN.{length, getD}
 use Rattle.base.specs.Graph.{Reach, here, step}
 use Rattle.job.specs.Job.{Job, claimOf, literalsOf}
 use Rattle.job.specs.Format.{jobOf}
-use Rattle.job.specs.Encoding.{_∈_, Valid}
+use Rattle.job.specs.Encoding.{Valid}
 use Rattle.job.specs.Checks.{checkJob}
 use Rattle.job.specs.declared.Check.the-variants.{Accepted}
-use Rattle.job.specs.declared.Question.{Question}
 use Rattle.semantics.specs.Leads.{LeadsTo}
 use Rattle.semantics.proofs.Leads.{used}
-use Rattle.table.specs.Questions.{askedBy, claimAsked, questionClaim}
 use Rattle.table.specs.Layout as W
 use Rattle.table.specs.Start.{startWords}
 use Rattle.waiting.specs.Led as L
@@ -22,25 +19,11 @@ use Rattle.turn.specs.Turn.{lits, runTable}
 use Rattle.calls.specs.Lists.{Call, turnsOf, Complete}
 use Rattle.calls.specs.Promise.{Fresh, from, Asked}
 use Rattle.turn.proofs.AtPlaces.{member}
-use Rattle.turn.proofs.Places.{place-low}
+use Rattle.turn.proofs.Places.{question-put}
 use Rattle.steps.proofs.OnTurns.{LitAt, led-job, only-led}
 use Rattle.calls.proofs.Histories.{turns-low, after-turns}
 use Rattle.calls.proofs.Answers.{complete-mark}
 use Rattle.calls.proofs.OnLists.{valid, ok, started, made-after}
-
--- the question at a place of the file
-record Found (qs : List Question) (c : ℕ) : Type 0 where
-  question : Question
-  is : question ∈ qs
-  claim : question .claim ≡ c
-
-found : (qs : List Question) (p : ℕ) → p < length qs → Found qs (claimAsked qs p)
-unfolding claimAsked
-found [] p h = absurd (omega arith)
-found (q ∷ qs) zero h = record { question = q; is = List·Memᴰ·head refl; claim = refl }
-found (q ∷ qs) (suc p) h =
-    let k = found qs p (omega arith) in
-    record { question = k .question; is = List·Memᴰ·tail (k .is); claim = k .claim }
 
 module _ (j : Job) (v : Valid j) where
   by-rules : {x y : ℕ} → Reach (LitAt j) x y → LeadsTo j x y
@@ -51,9 +34,8 @@ module _ (j : Job) (v : Valid j) where
       step (q .0, used j v x (q .0) (q .1), q .2 ∙ l .is) (by-rules p)
 
   pub led-asked : (c : ℕ) → L.Led (led-job j) c → Asked j c
-  unfolding questionClaim
   led-asked c (L.led {w = w} {i = i} h l p) =
-      let f = found (j .questions) (getD (askedBy j w) i 0) (place-low j w i l) in
+      let f = question-put j w i l in
       record { question = f .question; is = f .is; leads = subst (λ (x : ℕ). LeadsTo j x c) (sym (f .claim)) (by-rules p) }
 
 module _ (s : List ℕ) (e : Accepted ≡ checkJob s) (t : List ℕ) (room : Fresh s t) (xs : List Call) where

@@ -70,7 +70,7 @@ module _ (P Q : Program) (X : ℕ → Type 0) (closed : Closed P X) (sameRules :
             (b, q, λ l k. there l k (closed i (claimOf l) x (l, (b, q, k), refl)) (moved-same l));
       }
 
-  closed-same : (c : ℕ) → X c → verdict Q c ≡ verdict P c
+  pub closed-same : (c : ℕ) → X c → verdict Q c ≡ verdict P c
   closed-same = standing P Q X (λ c. c) closed-stands
 
 -- the bodies that have not failed by a known verdict

@@ -1,7 +1,8 @@
 -- `calls::schedule::run_few` meets its contract. The claims fit the arrays. Assumes nothing.
 use mathlib.Core.Path.{sym}
 use native.Mathlib.Omega.{arith}
-use Rattle.turn.proofs.Rooms.{front-long, front-room}
+use Rattle.base.proofs.Zeros.{front-long}
+use Rattle.turn.proofs.Rooms.{front-room}
 use borrow.Author.Needs.{needs}
 use Rattle.calls.proofs.schedule.run_few.Statement.{statement}
 use Rattle.calls.proofs.schedule.run_few.Tie as tie

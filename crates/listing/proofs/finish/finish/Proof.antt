@@ -1,8 +1,9 @@
 -- `listing::finish::finish` meets its contract. The claims fit the arrays. Assumes nothing.
 use mathlib.Core.Path.{sym}
 use native.Mathlib.Omega.{arith}
+use Rattle.base.proofs.Zeros.{front-long}
 use Rattle.job.specs.Job.{mostClaims}
-use Rattle.turn.proofs.Rooms.{front-long, front-room}
+use Rattle.turn.proofs.Rooms.{front-room}
 use borrow.Author.Needs.{needs}
 use Rattle.listing.proofs.finish.finish.Statement.{statement}
 use Rattle.listing.proofs.finish.finish.Tie as tie

@@ -1,8 +1,9 @@
 -- `turn::single::take_any` meets its contract. The claims fit the arrays. Assumes nothing.
 use mathlib.Core.Path.{sym}
 use native.Mathlib.Omega.{arith}
+use Rattle.base.proofs.Zeros.{front-long}
 use Rattle.job.specs.Job.{mostClaims}
-use Rattle.turn.proofs.Rooms.{front-long, front-room}
+use Rattle.turn.proofs.Rooms.{front-room}
 use borrow.Author.Needs.{needs}
 use Rattle.turn.proofs.single.take_any.Statement.{statement}
 use Rattle.turn.proofs.single.take_any.Tie as tie

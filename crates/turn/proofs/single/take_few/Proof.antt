@@ -1,7 +1,8 @@
 -- `turn::single::take_few` meets its contract. The claims fit the arrays. Assumes nothing.
 use mathlib.Core.Path.{sym}
 use native.Mathlib.Omega.{arith}
-use Rattle.turn.proofs.Rooms.{front-long, front-room}
+use Rattle.base.proofs.Zeros.{front-long}
+use Rattle.turn.proofs.Rooms.{front-room}
 use borrow.Author.Needs.{needs}
 use Rattle.turn.proofs.single.take_few.Statement.{statement}
 use Rattle.turn.proofs.single.take_few.Tie as tie
