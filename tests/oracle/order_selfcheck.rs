@@ -18,6 +18,8 @@ use crate::missing_jobs::add_missing;
 use crate::missing_sorts::SORTS;
 use crate::order_edges::{edge_fault, order_edges};
 use crate::orders::Orders;
+use crate::partners_check::{self, PartnersTotals};
+use crate::partners_readings::PARTNERS_READINGS;
 use crate::promises::ensure;
 use crate::readings::{shown_by_lists, shown_by_tables, worded, wrong_readings};
 use crate::shortcuts::{check_shortcuts, Lists};
@@ -206,6 +208,36 @@ impl Checked {
         self.faults.extend(unshown.map(|((name, _), _)| format!("no job shows a wrong reading of order 7: {name}")));
     }
 
+    /// What order 8 says, in second ways, and wrong readings of it.
+    fn partners_in_other_ways(&mut self) {
+        let mut totals = PartnersTotals::default();
+        self.faults.extend(partners_check::check_edges(worded(), &mut totals));
+        self.faults.extend(partners_check::check_seeds(0..4000, worded(), &mut totals));
+        self.lines.push(format!(
+            "order 8 in second ways: {} edge cases, {} jobs forwards and backwards, {} admitted, {:?} refused; {} \
+             pairs admitted and finished, {} answers equal, in {} another worker's differ; of {} pairs not admitted \
+             answers differ in {}; readings shown {:?}",
+            totals.edges,
+            totals.jobs,
+            totals.admitted,
+            totals.refused,
+            totals.pairs,
+            totals.answers,
+            totals.others_differ,
+            totals.not_admitted,
+            totals.leaked,
+            totals.shown
+        ));
+        let unshown = PARTNERS_READINGS.iter().zip(totals.shown).filter(|(_, count)| *count == 0);
+        self.faults.extend(unshown.map(|((name, _), _)| format!("no job shows a wrong reading of order 8: {name}")));
+        if totals.others_differ == 0 {
+            self.faults.push("no admitted pair in which another worker's answers differ".to_string());
+        }
+        if totals.leaked == 0 {
+            self.faults.push("no pair that isn't admitted in which the worker's answers differ".to_string());
+        }
+    }
+
     /// What order 9 says, in second ways, and wrong readings of it.
     fn clear_in_other_ways(&mut self) {
         let mut totals = ClearTotals::default();
@@ -263,6 +295,7 @@ pub fn check_orders() -> Checked {
     checked.lines_in_other_ways();
     checked.missing_in_other_ways();
     checked.forms_in_other_ways();
+    checked.partners_in_other_ways();
     checked.clear_in_other_ways();
     checked.faults_found();
     for kind in ["tiny", "small", "failing"] {

@@ -1,0 +1,11 @@
+pub mod Leading
+pub mod Abroad
+pub mod Relevant
+pub mod Worked
+pub mod Admitting
+pub mod Apart
+pub mod Scopes
+pub mod Searching
+pub mod Expanding
+pub mod Seeking
+pub mod Partners

@@ -1,0 +1,4 @@
+pub mod Groups
+pub mod Scopes
+pub mod Worked
+pub mod Admission
