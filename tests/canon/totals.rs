@@ -86,9 +86,7 @@ impl Totals {
         names.extend(unmet(&PAIRS, &self.pairs));
         names.extend(unmet(&COMPARED, &self.compared));
         names.extend(unmet(&RUNS, &self.run));
-        for name in names {
-            self.fail(&format!("{name}: never met"));
-        }
+        self.differences += differing::never_met(&names);
     }
 
     /// A difference of no job.

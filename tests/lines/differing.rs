@@ -1,4 +1,4 @@
-//! A difference: said in a line, its bytes kept.
+//! A difference: said in a line, its bytes kept; and what the gate never met.
 
 use std::path::Path;
 
@@ -16,4 +16,12 @@ pub fn say(number: usize, name: &str, what: &str, bytes: &[u8], program: &str, e
     let path = Path::new(FOLDER).join(format!("{program}-{}.{ending}", name.replace(' ', "-")));
     let kept = std::fs::write(&path, bytes).map_or_else(|error| error.to_string(), |()| "kept".to_string());
     println!("differs: {name}: {what} ({}: {kept})", path.display());
+}
+
+/// Says what the gate never met; how many differences that are.
+pub fn never_met(names: &[String]) -> usize {
+    for name in names {
+        println!("differs: the gate: {name}: never met");
+    }
+    names.len()
 }

@@ -55,10 +55,7 @@ impl Totals {
         missing.extend(unmet(&SORTS[..SORTS.len() - 1], &self.run).iter().map(|sort| format!("a run: {sort}")));
         let others = ["a job read back", "a job listed", "a text too long", "an output that can't be written"];
         missing.extend(unmet(&others, &[self.read_back, self.listed, self.too_long, self.unwritten]));
-        for name in missing {
-            self.differences += 1;
-            println!("differs: the gate: {name}: never met");
-        }
+        self.differences += differing::never_met(&missing);
     }
 }
 

@@ -74,10 +74,7 @@ impl Totals {
         let mut names = unmet(&CALLED, &self.called);
         names.extend(unmet(&PAIRS, &self.pairs));
         names.extend(unmet(&PARTNERS_READINGS.map(|(name, _)| name), &self.shown));
-        for name in names {
-            self.differences += 1;
-            println!("differs: the gate: {name}: never met");
-        }
+        self.differences += differing::never_met(&names);
     }
 }
 

@@ -1,7 +1,7 @@
 -- Of an admitted job: what another group's rules can't change (specs/Admission: Apart), and all that the call promises. Assumes nothing.
 --   asked-permitted   a worker's question k may be put
 --   apart, admission  the theorems
-use Prim.Native.Nat.{ℕ, _<_, _≤_}
+use Prim.Native.Nat.{ℕ, _<_}
 use mathlib.Core.Path.{_≡_, sym, _∙_, ap, subst, subst⁻¹}
 use mathlib.Core.List.{List}
 use native.Mathlib.Omega.{arith}

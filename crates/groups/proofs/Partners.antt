@@ -5,7 +5,7 @@ use Prim.Native.Nat.{ℕ}
 use mathlib.Core.Path.{_≡_, _∙_, ap, ap₂}
 use mathlib.Core.Bool.{Bool}
 use mathlib.Core.List.{List}
-use lib.ListN.{getD, replicate}
+use lib.ListN.{replicate}
 use Rattle.base.proofs.Zeros.{zeros-at}
 use Rattle.job.specs.Format.{jobOf}
 use Rattle.job.specs.Job.{Job, mostClaims}

@@ -2,7 +2,7 @@
 --   settled-own, -public, -cases   which scopes are settled
 --   narrow-first, -later, -settled, -small   what an unsettled scope becomes; narrow-keeps   it stays settled for whom it was
 --   narrowed-..                    what any scope becomes; narrowed-two   one that is settled for another group
---   visit-settled, visit-pushed    one claim met, by the test that the code makes
+--   visit-elim                     a proof for each way that a claim is met; visit-..   what it leaves
 --   pushed-..                      a claim that is not settled joins the queue
 use Prim.Native.Nat.{ℕ, _+_, _≤_, _<_}
 use mathlib.Core.Path.{_≡_, refl, sym, _∙_, ap, subst, subst⁻¹}
@@ -11,12 +11,12 @@ use mathlib.Core.Logic.{_⊎_, inl, inr, ⊎-elim, by-cases}
 use native.Mathlib.Decide.{ℕ-discrete}
 use native.Mathlib.Omega.{arith}
 use borrow.Author.Tests.{eq-eqb, ne-eqb}
-use lib.Dec.{T, eqb, eqb→eq, eqb-refl}
+use lib.Dec.{T, T-not, eqb, eqb→eq, eqb-refl}
 use lib.ListN.{length, getD, set, length-set}
 use lib.Seq.{getD-set-same, getD-set-other}
 use Rattle.base.specs.Sets.{count}
 use Rattle.base.proofs.Bools.{is, is-not, is-true, or-left, or-right, or-cases}
-use Rattle.base.proofs.Choose.{t?, pick-yes, pick-no, pick-true, pick-false}
+use Rattle.base.proofs.Choose.{t?, pick-elim, pick-yes, pick-no, pick-true, pick-false}
 use Rattle.base.proofs.Sets.{count-le, count-less}
 use Rattle.job.specs.Job.{mostClaims}
 use Rattle.groups.specs.Scopes.{scope, settled, narrow, narrowed, Work, pushed, visit, Fits}
@@ -90,13 +90,20 @@ narrowed-two g h x n t =
     both (inr a) b = a
 
 module _ (g b : ℕ) (k : Work) where
-  pub visit-settled : T (settled g (scope (k .scopes) b)) → visit g b k ≡ k
+  -- the two ways
+  visit-settled : T (settled g (scope (k .scopes) b)) → visit g b k ≡ k
   unfolding visit
   visit-settled t = pick-yes (settled g (scope (k .scopes) b)) k (pushed g b k) t
 
-  pub visit-pushed : (T (settled g (scope (k .scopes) b)) → ⊥) → visit g b k ≡ pushed g b k
+  visit-pushed : (T (settled g (scope (k .scopes) b)) → ⊥) → visit g b k ≡ pushed g b k
   unfolding visit
   visit-pushed n = pick-no (settled g (scope (k .scopes) b)) k (pushed g b k) n
+
+  pub visit-elim :
+      (P : Work → Type 0) → (T (settled g (scope (k .scopes) b)) → P k) → ((T (settled g (scope (k .scopes) b)) → ⊥) → P (pushed g b k))
+      → P (visit g b k)
+  unfolding visit
+  visit-elim P f n = pick-elim P (settled g (scope (k .scopes) b)) f (λ t. n (T-not (settled g (scope (k .scopes) b)) t))
 
   module _ (fits : Fits g k) (low : b < mostClaims) where
     inside : b < length (k .scopes)
@@ -151,25 +158,17 @@ module _ (g b : ℕ) (k : Work) where
           (λ n. ap (narrowed g) (scope-other e n))
 
     pub visit-fits : Fits g (visit g b k)
-    visit-fits =
-        by-cases (t? (settled g (scope (k .scopes) b))) (λ t. subst⁻¹ (Fits g) (visit-settled t) fits)
-        (λ n. subst⁻¹ (Fits g) (visit-pushed n) (pushed-fits n))
+    visit-fits = visit-elim (Fits g) (λ t. fits) pushed-fits
 
     pub visit-queued : (n : ℕ) → n < k .top → (n < visit g b k .top) × (getD (visit g b k .queue) n 0 ≡ getD (k .queue) n 0)
     visit-queued n l =
-        by-cases (t? (settled g (scope (k .scopes) b)))
-        (λ t. subst⁻¹ (λ (y : Work). (n < y .top) × (getD (y .queue) n 0 ≡ getD (k .queue) n 0)) (visit-settled t) (l, refl))
-        (λ m. subst⁻¹ (λ (y : Work). (n < y .top) × (getD (y .queue) n 0 ≡ getD (k .queue) n 0)) (visit-pushed m) (omega arith, queue-other m n l))
+        visit-elim (λ y. (n < y .top) × (getD (y .queue) n 0 ≡ getD (k .queue) n 0)) (λ t. (l, refl)) (λ out. (omega arith, queue-other out n l))
 
     pub visit-there : T (settled g (scope (visit g b k .scopes) b))
-    visit-there =
-        by-cases (t? (settled g (scope (k .scopes) b))) (λ t. subst⁻¹ (λ (y : Work). T (settled g (scope (y .scopes) b))) (visit-settled t) t)
-        (λ n. subst⁻¹ (λ (y : Work). T (settled g (scope (y .scopes) b))) (visit-pushed n) pushed-there)
+    visit-there = visit-elim (λ y. T (settled g (scope (y .scopes) b))) (λ t. t) (λ out. pushed-there)
 
     pub visit-keeps : (d : ℕ) → T (settled g (scope (k .scopes) d)) → T (settled g (scope (visit g b k .scopes) d))
-    visit-keeps d t =
-        by-cases (t? (settled g (scope (k .scopes) b))) (λ s. subst⁻¹ (λ (y : Work). T (settled g (scope (y .scopes) d))) (visit-settled s) t)
-        (λ n. subst⁻¹ (λ (y : Work). T (settled g (scope (y .scopes) d))) (visit-pushed n) (pushed-keeps g d t))
+    visit-keeps d t = visit-elim (λ y. T (settled g (scope (y .scopes) d))) (λ s. t) (λ out. pushed-keeps g d t)
 
 -- one claim met, by what the code reads and tests: its scope x, whether that is settled
 module _ (g b : ℕ) (k : Work) (x : ℕ) (read : x ≡ scope (k .scopes) b) (r : Bool) (test : r ≡ settled g x) where

@@ -16,7 +16,6 @@ use lib.Dec.{T}
 use lib.ListN.{getD}
 use Rattle.base.specs.Graph.{here, step}
 use Rattle.base.proofs.Bools.{is-true}
-use Rattle.base.proofs.Choose.{t?}
 use Rattle.job.specs.Job.{Job, mostClaims}
 use Rattle.job.specs.Encoding.{Valid}
 use Rattle.semantics.specs.Missing.{asWritten}
@@ -24,7 +23,7 @@ use Rattle.semantics.specs.Leads.{Leads, LeadsTo}
 use Rattle.groups.specs.Groups.{Open, public, own, foreign, abroad}
 use Rattle.groups.specs.Scopes.{scope, settled, narrow, narrowed, Work, pushed, visit, Fits, Right, Known, Looked, right, waits, Searching}
 use Rattle.groups.proofs.Abroad.{foreign-open, to-abroad, not-abroad}
-use Rattle.groups.proofs.Scopes.{settled-own, settled-public, settled-cases, narrow-first, narrow-later, narrowed-settled, narrowed-cases, narrowed-two, visit-settled, visit-pushed, scope-there, scope-other, pushed-there, pushed-keeps, queue-there, queue-other, narrowed-kept}
+use Rattle.groups.proofs.Scopes.{settled-own, settled-public, settled-cases, narrow-first, narrowed-settled, narrowed-cases, narrowed-two, visit-elim, scope-there, scope-other, pushed-there, pushed-keeps, queue-there, queue-other, narrowed-kept}
 
 -- what is open to two groups is public
 open-two : (gs : List ℕ) (g h d : ℕ) → (g ≡ h → ⊥) → Open gs g d → Open gs h d → (f : ℕ) → Open gs f d
@@ -120,8 +119,7 @@ module _ (j : Job) (gs : List ℕ) (g c : ℕ) where
   pub searching-visit :
       (i b : ℕ) (k : Work) → Fits g k → b < mostClaims → LeadsTo j c b → Searching j gs g c i k → Searching j gs g c i (visit g b k)
   searching-visit i b k fits low way search =
-      by-cases (t? (settled g (scope (k .scopes) b))) (λ t. subst⁻¹ (Searching j gs g c i) (visit-settled g b k t) search)
-      (λ n. subst⁻¹ (Searching j gs g c i) (visit-pushed g b k n) (searching-pushed i b k fits low n search way))
+      visit-elim g b k (Searching j gs g c i) (λ t. search) (λ out. searching-pushed i b k fits low out search way)
 
   -- one claim of the queue was looked at
   module _ (i : ℕ) (k : Work) (search : Searching j gs g c i k) where

@@ -1,7 +1,7 @@
 -- The loop of `leads_abroad`: the search from claim c of job s for group g, up to place i of the queue. Assumes nothing.
 --   Seeking          its invariant
 --   seeking-start    c is met
---   seeking-within   there is a claim at place i, one of the job
+--   seeking-top, -low, -cursor   the queue has room; the claim at place i is one of the job, and its literals stand there
 --   seeking-foreign  it is foreign: c leads abroad
 --   seeking-more     it isn't, and the claims of its literals are met
 --   seeking-done     nothing left: c doesn't lead abroad, and all scopes are right

@@ -1,19 +1,18 @@
 -- The answers worked out by hand (specs/Worked) are those of the rows: computed. Assumes nothing.
 use Prim.Native.Nat.{ℕ}
-use mathlib.Core.Path.{_≡_, refl, sym, _∙_, ap, subst}
-use mathlib.Core.List.{List, [], _∷_, flatMap, List·Memᴰ·head, List·Memᴰ·tail, List·Memᴰ·not-nil, List·Memᴰ·cases-cons}
+use mathlib.Core.Path.{_≡_, refl, sym, ap, subst}
+use mathlib.Core.List.{[], _∷_, flatMap, List·Memᴰ·head, List·Memᴰ·not-nil, List·Memᴰ·cases-cons}
 use mathlib.Core.Logic.{⊎-elim}
 use native.Mathlib.Omega.{arith}
-use lib.ListN.{getD}
 use Rattle.base.specs.Compare.{under, over, notBelow, differs}
 use Rattle.base.specs.Sets.{iterate}
 use Rattle.base.specs.Span.{span}
 use Rattle.job.specs.Bytes.{word, half}
-use Rattle.job.specs.Job.{Rule, _if_, bodyCount, literalsOf}
+use Rattle.job.specs.Job.{Rule, bodyCount, literalsOf}
 use Rattle.job.specs.Format.{bodyLengthAt, missingAt, headBefore, bodyStart, literalOf, ruleAt, jobOf}
 use Rattle.job.specs.Rows.{_⨾_, row, scan}
 use Rattle.job.specs.Checks.{checkJob, checkHeader, checkParts, checkLength, checkTotal, checkCounts, checkOffsets, checkHeads, checkBodies, checkLiterals, checkQuestions}
-use Rattle.job.specs.Encoding.{_∈_, encode, headerBytes, lengthOf}
+use Rattle.job.specs.Encoding.{encode, headerBytes, lengthOf}
 use Rattle.groups.specs.Groups.{Open, public, own, DifferElsewhere, foreign, leaves, nearer, abroad, checkLists, checkPartners, admitCheck}
 use Rattle.groups.specs.Worked.{before, after, AdmissionsRight}
 

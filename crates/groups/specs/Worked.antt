@@ -8,7 +8,7 @@
 use Prim.Native.Nat.{ℕ}
 use mathlib.Core.List.{List, [], _∷_, map}
 use mathlib.Core.Path.{_≡_}
-use Rattle.job.specs.Job.{Rule, Job, _if_, missingRecord}
+use Rattle.job.specs.Job.{Job, _if_, missingRecord}
 use Rattle.job.specs.Encoding.{encode}
 use Rattle.job.specs.declared.Check.{Check}
 use Rattle.job.specs.declared.Check.the-variants.{Accepted, Refused}
