@@ -1,13 +1,17 @@
 -- What a call gives by its checks: F of the whole check, once its first part has answered. Assumes nothing.
-use Prim.Native.Nat.{ℕ, _<_}
+use Prim.Native.Nat.{ℕ, _≤_}
 use mathlib.Core.Path.{_≡_, sym, _∙_, ap, ap₂}
 use mathlib.Core.List.{List}
 use lib.ListN.{length, getD, replicate}
 use Rattle.base.proofs.Compare.{notBelow-lt}
-use Rattle.job.proofs.Rows.{scan-all}
+use Rattle.job.specs.Accepted.{WellFormed}
+use Rattle.job.proofs.Rows.{both, scan-all}
+use Rattle.job.proofs.Accepted.{well-formed}
 use Rattle.job.specs.Format.{workers, jobOf}
+use Rattle.table.specs.Layout.{used}
+use Rattle.table.proofs.Ranges.{enough-room}
 use Rattle.turn.specs.Turn.{runTable, runKinds}
-use Rattle.calls.specs.Calls.{checkSchedule, runCheck, tally, runTally, runLeft, Ran, runAnswer}
+use Rattle.calls.specs.Calls.{Named, startCheck, checkSchedule, runCheck, tally, runTally, runLeft, Ran, runAnswer}
 use Rattle.calls.specs.declared.RunAnswer.{RunAnswer}
 use Rattle.job.specs.Rows.{_⨾_}
 use Rattle.job.specs.declared.Check.{Check}
@@ -52,7 +56,12 @@ module _ (s t ws : List ℕ) where
   unfolding runAnswer
   ran-answer {r} m = (ap₂ (λ (x : Check) (y : List ℕ). record { check = x; tally = y }) (m .checkIs) (m .tallyIs), m .tableIs)
 
+-- what accepted rows 1 to 9 say
+pub start-good : (s t : List ℕ) → Accepted ≡ startCheck s t → WellFormed s × (used (jobOf s) ≤ length t)
+unfolding startCheck
+start-good s t e = let p = both _ _ e in (well-formed s (p .0), enough-room (jobOf s) t (p .1))
+
 -- a schedule that is accepted names workers of the job
-pub schedule-low : (s ws : List ℕ) → Accepted ≡ checkSchedule s ws → (i : ℕ) → i < length ws → getD ws i 0 < workers s
+pub schedule-low : (s ws : List ℕ) → Accepted ≡ checkSchedule s ws → Named s ws
 unfolding checkSchedule
 schedule-low s ws e i h = notBelow-lt (getD ws i 0) (workers s) (scan-all _ _ _ _ e i h)

@@ -30,12 +30,14 @@ use Rattle.turn.proofs.Jobs.{JobOk, job-ok}
 use Rattle.turn.proofs.Range.{turn-in-range, turn-kept}
 use Rattle.turn.proofs.Lengths.{turn-length}
 use Rattle.steps.proofs.Past.{turn-past}
+use Rattle.steps.proofs.SameTurns.{start-agree}
 use Rattle.calls.specs.Promise.{from, extendedMark, Promise}
 use Rattle.calls.proofs.Taken.{starts, taken}
 use Rattle.calls.proofs.OnLists.{answer-is, on-accepted, on-verdicts, on-values, on-stays, on-holds, on-quiet, on-changes, on-rounds}
 use Rattle.calls.proofs.Named.{on-claims}
 use Rattle.calls.proofs.RulesBehind.{on-literals}
 use Rattle.calls.proofs.Opening.{on-opened}
+use Rattle.calls.proofs.OnAlike.{on-alike}
 use Rattle.calls.proofs.Alone.{alone-accepted, alone-answers, on-answers}
 
 as-extended : (j : Job) → Extension j → (t : List ℕ) (c : ℕ) → c < j .claims → completedMark j t c ≡ extendedMark j t c
@@ -67,6 +69,8 @@ promise s e =
       newest = row-newest (jobOf s);
       kept = turn-accepted (job-ok s (well-formed s e));
       past = turn-beyond (job-ok s (well-formed s e));
+      alike = λ t u a xs. on-alike s e xs a;
+      startsAlike = start-agree (jobOf s);
       stays = λ t f xs w c. on-stays s e t f xs w c;
       answers = on-answers s e;
       aloneAccepted = alone-accepted s e;

@@ -1,6 +1,7 @@
 -- A list of calls is its turns: what it leaves and what it tells are those of the run of the turns it makes. Assumes nothing.
 --   run-append, kinds-append, events-append   one run after another
 --   low-append, low-all   turns that are of the job's workers
+--   turn-worker, run-workers   the workers of an accepted call
 --   turns-low     every turn made is one of the job's workers
 --   after-turns   the table after the list is that after its turns; events-turns   its events are theirs
 use mathlib.Core.Path.{_≡_, refl, sym, _∙_, ap, subst}
@@ -61,11 +62,11 @@ module _ (j : Job) where
 
 module _ (s : List ℕ) where
   -- what an accepted call says of its workers
-  turn-worker : (t : List ℕ) (w : ℕ) → Accepted ≡ turnCheck s t w → w < jobOf s .workers
+  pub turn-worker : (t : List ℕ) (w : ℕ) → Accepted ≡ turnCheck s t w → w < jobOf s .workers
   unfolding turnCheck checkTurnWorker jobOf
   turn-worker t w e = notBelow-lt _ _ (row-no _ _ _ (both _ _ (both _ _ (both _ _ e .1) .1) .0))
 
-  run-workers : (t ws : List ℕ) → Accepted ≡ runCheck s t ws → (i : ℕ) → i < length ws → getD ws i 0 < jobOf s .workers
+  pub run-workers : (t ws : List ℕ) → Accepted ≡ runCheck s t ws → (i : ℕ) → i < length ws → getD ws i 0 < jobOf s .workers
   unfolding runCheck checkSchedule jobOf
   run-workers t ws e i l = notBelow-lt _ _ (scan-all _ _ _ _ (both _ _ (both _ _ e .1) .1) i l)
 

@@ -9,5 +9,6 @@ pub mod OnLists
 pub mod Named
 pub mod RulesBehind
 pub mod Opening
+pub mod OnAlike
 pub mod Alone
 pub mod Demands

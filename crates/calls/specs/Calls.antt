@@ -3,9 +3,10 @@
 --   startCheck, turnCheck, runCheck, readCheck   the rows that a call checks, in the table's order
 --   startTable, turnTable, runLeft               the table at exit
 --   turnAnswer, runAnswer, readAnswer            the answer
+--   Named s ws                                   the schedule ws names workers of the job
 --   Ran check s t ws r u                         a run gave what its check says: the answer r, the table u
 --   tally ks                                     how many turns were of each kind
-use Prim.Native.Nat.{ℕ, _+_}
+use Prim.Native.Nat.{ℕ, _+_, _<_}
 use mathlib.Core.List.{List, [], _∷_}
 use mathlib.Core.Path.{_≡_}
 use lib.ListN.{length, getD, set, replicate}
@@ -41,6 +42,9 @@ checkTurnWorker s w = row (notBelow w (workers s)) 11 0 ⨾ Accepted
 
 unfoldable pub checkSchedule : List ℕ → List ℕ → Check
 checkSchedule s ws = scan (λ i. notBelow (getD ws i 0) (workers s)) (length ws) 11 (λ i. i)
+
+abbrev pub Named : List ℕ → List ℕ → Type 0
+Named s ws = (i : ℕ) → i < length ws → getD ws i 0 < workers s
 
 unfoldable pub turnCheck : List ℕ → List ℕ → ℕ → Check
 turnCheck s t w = checkJob s ⨾ checkTable (jobOf s) t ⨾ checkTurnWorker s w

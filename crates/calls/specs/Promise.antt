@@ -35,7 +35,9 @@ use Rattle.table.specs.Reading.{readingOf, readingValue}
 use Rattle.waiting.specs.Runs.{Rounds}
 use Rattle.turn.specs.Turn.{completedMark, turn}
 use Rattle.turn.specs.declared.Kind.the-variants.{Idle}
+use Rattle.steps.specs.Agreeing.{Agree}
 use Rattle.calls.specs.Taken.{Started, Taken}
+use Rattle.calls.specs.Alike.{Alike}
 use Rattle.calls.specs.Lists.{Call, turning, after, turnsOf, Event, events, IsAnswered, answerOf, AllAnswered, Complete}
 
 abbrev pub Fresh : List ℕ → List ℕ → Type 0
@@ -126,6 +128,11 @@ pub record Promise (s : List ℕ) : Type 0 where
   pub past :
       (t : List ℕ) (w : ℕ) → w < jobOf s .workers → Accepted ≡ checkTable (jobOf s) t
       → (length (turn (jobOf s) t w .table) ≡ length t) × ((i : ℕ) → used (jobOf s) ≤ i → getD (turn (jobOf s) t w .table) i 0 ≡ getD t i 0)
+  -- words past those used decide nothing: on tables that agree on the words used, also those that no run made, calls answer the same and
+  -- leave such tables
+  pub alike : (t u : List ℕ) → Agree (jobOf s) t u → (xs : List Call) → Alike s t u xs
+  -- and starting makes such tables of any two, whatever they held
+  pub startsAlike : (t u : List ℕ) → Fresh s t → Fresh s u → Agree (jobOf s) (startWords (jobOf s) t) (startWords (jobOf s) u)
   -- a complete claim keeps its value in every further turn
   pub stays :
       (t : List ℕ) → Fresh s t → (xs : List Call) (w c : ℕ) → w < jobOf s .workers → c < jobOf s .claims → Complete (from s t xs) c

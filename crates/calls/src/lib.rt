@@ -45,19 +45,26 @@ pub enum ReadAnswer {
     Refused { number: u32, place: usize },
 }
 
+// Rows 1 to 9, as starting checks them.
+pub fn check_start(job: &[u8], table: &[u32]) -> Check
+    ensures { λ r. ⌜ r ≡ startCheck (now (job .entry)) (now (table .entry)) ⌝ }
+{
+    let check = job::checks::check_job(job);
+    let Check::Accepted = check else {
+        return check;
+    };
+    table::checks::check_room(job, table)
+}
+
 // Starts a table for a job: rows 1 to 9. Of an accepted job every list of calls from a started table keeps demands 2 and 3.
 pub fn start(job: &[u8], table: &mut [u32]) -> Check
     ensures { λ r. ⌜ r ≡ startCheck (now (job .entry)) (now (table .entry)) ⌝ }
     ensures { λ r. ⌜ now (table .exit) ≡ startTable (startCheck (now (job .entry)) (now (table .entry))) (now (job .entry)) (now (table .entry)) ⌝ }
     ensures { λ r. ⌜ (Check.Accepted ≡ checkJob (now (job .entry)) → Promise (now (job .entry))) ⌝ }
 {
-    let check = job::checks::check_job(job);
+    let check = check_start(job, table);
     let Check::Accepted = check else {
         return check;
-    };
-    let room = table::checks::check_room(job, table);
-    let Check::Accepted = room else {
-        return room;
     };
     table::start::write_start(job, table);
     Check::Accepted

@@ -1,13 +1,13 @@
 // The schedule of a run: its check, and its turns, one after the other. The contracts cite `runTable` and `runKinds` of the turn's specs, and
 // `checkSchedule` and `tally` of specs/Calls.
 ghost use mathlib.Core.Path.{_≡_};
-ghost use Prim.Native.Nat.{ℕ, _≤_, _<_};
-ghost use lib.ListN.{length, getD};
+ghost use Prim.Native.Nat.{_≤_};
 ghost use Rattle.job.specs.Accepted.{WellFormed};
-ghost use Rattle.job.specs.Format.{claims, workers as workersOf, jobOf};
+ghost use Rattle.job.specs.Format.{claims, jobOf};
 ghost use Rattle.table.specs.Questions.{Listed};
 ghost use Rattle.turn.specs.Turn.{runTable, runKinds};
-ghost use Rattle.calls.specs.Calls.{checkSchedule, tally as tallyOf};
+ghost use Rattle.calls.specs.Calls.{Named, checkSchedule, tally as tallyOf};
+ghost use Rattle.calls.specs.Rooms.{Room};
 ghost use Rattle.turn.specs.Ready.{Ready};
 use crate::tally;
 use base::wide;
@@ -29,8 +29,8 @@ fn run_in(
     members: &mut [u16],
 ) -> [u64; 8]
     requires { ⌜ Ready (now job) (now index) (now table) × Listed (jobOf (now job)) (now asked) ⌝ }
-    requires { ⌜ ((i : ℕ) → i < length (now schedule) → getD (now schedule) i 0 < workersOf (now job)) ⌝ }
-    requires { ⌜ (length (now place) ≡ claims (now job)) × (claims (now job) ≤ length (now members)) × ((c : ℕ) → getD (now place) c 0 ≡ 0) ⌝ }
+    requires { ⌜ Named (now job) (now schedule) ⌝ }
+    requires { ⌜ Room (now job) (now place) (now members) ⌝ }
     ensures { λ r. ⌜ r ≡ tallyOf (runKinds (jobOf (now (job .entry))) (now (table .entry)) (now (schedule .entry))) ⌝ }
     ensures { λ r. ⌜ now (table .exit) ≡ runTable (jobOf (now (job .entry))) (now (table .entry)) (now (schedule .entry)) ⌝ }
 {
@@ -56,7 +56,7 @@ fn run_few(
     schedule: &[u8],
 ) -> [u64; 8]
     requires { ⌜ Ready (now job) (now index) (now table) × Listed (jobOf (now job)) (now asked) ⌝ }
-    requires { ⌜ ((i : ℕ) → i < length (now schedule) → getD (now schedule) i 0 < workersOf (now job)) ⌝ }
+    requires { ⌜ Named (now job) (now schedule) ⌝ }
     requires { ⌜ claims (now job) ≤ 64 ⌝ }
     ensures { λ r. ⌜ r ≡ tallyOf (runKinds (jobOf (now (job .entry))) (now (table .entry)) (now (schedule .entry))) ⌝ }
     ensures { λ r. ⌜ now (table .exit) ≡ runTable (jobOf (now (job .entry))) (now (table .entry)) (now (schedule .entry)) ⌝ }
@@ -84,7 +84,7 @@ fn run_any(
     schedule: &[u8],
 ) -> [u64; 8]
     requires { ⌜ Ready (now job) (now index) (now table) × Listed (jobOf (now job)) (now asked) ⌝ }
-    requires { ⌜ ((i : ℕ) → i < length (now schedule) → getD (now schedule) i 0 < workersOf (now job)) ⌝ }
+    requires { ⌜ Named (now job) (now schedule) ⌝ }
     ensures { λ r. ⌜ r ≡ tallyOf (runKinds (jobOf (now (job .entry))) (now (table .entry)) (now (schedule .entry))) ⌝ }
     ensures { λ r. ⌜ now (table .exit) ≡ runTable (jobOf (now (job .entry))) (now (table .entry)) (now (schedule .entry)) ⌝ }
 {
@@ -112,7 +112,7 @@ pub fn run_turns(
 ) -> [u64; 8]
     requires { ⌜ Ready (now job) (now index) (now table) ⌝ }
     requires { ⌜ Listed (jobOf (now job)) (now asked) ⌝ }
-    requires { ⌜ ((i : ℕ) → i < length (now schedule) → getD (now schedule) i 0 < workersOf (now job)) ⌝ }
+    requires { ⌜ Named (now job) (now schedule) ⌝ }
     ensures { λ r. ⌜ r ≡ tallyOf (runKinds (jobOf (now (job .entry))) (now (table .entry)) (now (schedule .entry))) ⌝ }
     ensures { λ r. ⌜ now (table .exit) ≡ runTable (jobOf (now (job .entry))) (now (table .entry)) (now (schedule .entry)) ⌝ }
 {

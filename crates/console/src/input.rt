@@ -1,8 +1,21 @@
 // Standard input, read to its end. io's `read_full` doesn't tell an end from a read that failed.
+ghost use mathlib.Core.Path.{_≡_};
 ghost use Prim.Native.Nat.{_≤_};
 ghost use lib.ListN.{length};
 ghost use Rattle.io.specs.Counts.{Counts};
 use libc::STDIN_FILENO;
+
+// The most bytes that a text, or a job with its record, may have.
+pub const MOST_BYTES: usize = 1048576;
+
+// One byte more, so that a longer input shows.
+pub const ROOM: usize = MOST_BYTES + 1;
+
+pub fn room() -> [u8; ROOM]
+    ensures { λ r. ⌜ 1048577 ≡ length r ⌝ }
+{
+    [0u8; ROOM]
+}
 
 // How many bytes were read, and whether no read failed.
 pub struct Input {

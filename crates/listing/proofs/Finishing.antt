@@ -1,9 +1,9 @@
 -- The finishing turns, one at a time: what is still to come makes of the table and the tally what all of them make. Assumes nothing.
 --   done j t w     worker w has answered all its questions
 --   Rest s t w     a sweep up to worker w: the workers still to come say whether all is answered
---   Going          after some of the turns, `left` of them left at most
+--   Going          after some of the turns, `left` of them left at most, no count above `most`
 use Prim.Native.Nat.{ℕ, zero, suc, _+_, _-_, _*_, _<_, _≤_}
-use mathlib.Core.Path.{_≡_, refl, sym, _∙_, ap, ap₂}
+use mathlib.Core.Path.{_≡_, refl, sym, _∙_, ap, ap₂, subst}
 use mathlib.Core.Bool.{Bool, true, false}
 use mathlib.Core.List.{List, [], _∷_}
 use native.Mathlib.Omega.{arith}
@@ -22,17 +22,15 @@ use Rattle.job.proofs.Written.{literals-count, questions-count}
 use Rattle.job.specs.Accepted.{WellFormed}
 use Rattle.table.specs.Questions.{askedBy}
 use Rattle.table.specs.Layout.{answered}
-use Rattle.table.specs.Newest.{NewestKept}
-use Rattle.table.specs.Ranges.{InRange}
 use Rattle.turn.specs.Turn.{kindNumber, turn, runTable, runKinds}
 use Rattle.calls.specs.Calls.{counted}
-use Rattle.turn.specs.Ready.{Made}
+use Rattle.turn.specs.Ready.{Ready}
+use Rattle.turn.specs.KeptSet.{Done}
 use Rattle.calls.specs.Promise.{bound}
-use Rattle.turn.specs.declared.Kind.{Kind}
-use Rattle.turn.proofs.Jobs.{job-ok}
-use Rattle.turn.proofs.Range.{turn-in-range, turn-kept}
-use Rattle.turn.proofs.Lengths.{turn-length}
-use Rattle.calls.proofs.Tallies.{one-more}
+use Rattle.turn.specs.declared.Kept.{Kept}
+use Rattle.turn.specs.declared.Taken.{Taken}
+use Rattle.calls.specs.Rooms.{Room}
+use Rattle.calls.proofs.Running.{Partly, partly-start, partly-more, partly-end}
 use Rattle.listing.specs.Finish.{answeredAll, nextWorker, finishTurns, most}
 
 abbrev pub done : Job → List ℕ → ℕ → Bool
@@ -102,62 +100,47 @@ module _ (j : Job) (t : List ℕ) where
 abbrev pub finishing : List ℕ → List ℕ → List ℕ
 finishing s t = finishTurns (most (jobOf s)) (jobOf s) t 0
 
-pub record Going (s t₀ counts₀ : List ℕ) (left w : ℕ) (t counts : List ℕ) : Type 0 where
-  pub range : InRange (jobOf s) t
-  pub newests : NewestKept (jobOf s) t
-  pub long : length t ≡ length t₀
+pub record Going (s t₀ counts₀ members₀ : List ℕ) (left w : ℕ) (t counts : List ℕ) (kept : Kept) (place members : List ℕ) : Type 0 where
+  pub most : ℕ
+  pub part : Partly s t₀ counts₀ (finishing s t₀) members₀ most (finishTurns left (jobOf s) t w) t counts kept place members
+  pub few : most + left ≤ 8589934592
   pub low : w < workers s
-  pub small : (k : ℕ) → getD counts k 0 + left < 8589934592
-  pub tables : runTable (jobOf s) t₀ (finishing s t₀) ≡ runTable (jobOf s) t (finishTurns left (jobOf s) t w)
-  pub tallies : counted counts₀ (runKinds (jobOf s) t₀ (finishing s t₀)) ≡ counted counts (runKinds (jobOf s) t (finishTurns left (jobOf s) t w))
 
-module _ (s t₀ counts₀ : List ℕ) (good : WellFormed s) where
-  pub going-start : InRange (jobOf s) t₀ → NewestKept (jobOf s) t₀ → ((k : ℕ) → getD counts₀ k 0 < 4294967296) → {left : ℕ} → left ≡ most (jobOf s) → left < 4294967296 → Going s t₀ counts₀ left 0 t₀ counts₀
-  going-start r h few e l =
+module _ (s t₀ counts₀ members₀ : List ℕ) where
+  pub going-start :
+      {index : List ℕ} → Ready s index t₀ → {place : List ℕ} → Room s place members₀ → {kept : Kept} → kept ≡ record { from = 0; count = 0; worker = 0; next = 0 }
+      → ((k : ℕ) → getD counts₀ k 0 < 4294967296) → {left : ℕ} → left ≡ most (jobOf s) → left < 4294967296 → Going s t₀ counts₀ members₀ left 0 t₀ counts₀ kept place members₀
+  going-start r {place} q {kept} e few {left} is l =
       record {
-        range = r;
-        newests = h;
-        long = refl;
-        low = omega (arith, good .sized .workersLeast);
-        small = λ k. omega (arith, few k);
-        tables = ap (λ (n : ℕ). runTable (jobOf s) t₀ (finishTurns n (jobOf s) t₀ 0)) (sym e);
-        tallies = ap (λ (n : ℕ). counted counts₀ (runKinds (jobOf s) t₀ (finishTurns n (jobOf s) t₀ 0))) (sym e);
+        most = 4294967296;
+        part =
+            subst (λ (n : ℕ). Partly s t₀ counts₀ (finishing s t₀) members₀ 4294967296 (finishTurns n (jobOf s) t₀ 0) t₀ counts₀ kept place members₀) (sym is)
+            (partly-start s t₀ counts₀ (finishing s t₀) members₀ r q e refl (λ k. omega (arith, few k)));
+        few = omega arith;
+        low = omega (arith, r .job .sized .workersLeast);
       }
 
-  module _ {left w : ℕ} {t counts : List ℕ} (p : Going s t₀ counts₀ left w t counts) where
-    -- no turn is left: the table and the tally are those at the end
-    ended : finishTurns left (jobOf s) t w ≡ [] → (counts ≡ counted counts₀ (runKinds (jobOf s) t₀ (finishing s t₀))) × (t ≡ runTable (jobOf s) t₀ (finishing s t₀))
-    unfolding runTable runKinds counted
-    ended none =
-        (sym (p .tallies ∙ ap (λ (x : List ℕ). counted counts (runKinds (jobOf s) t x)) none), sym (p .tables ∙ ap (runTable (jobOf s) t) none))
-
+  module _ {left w : ℕ} {t counts : List ℕ} {kept : Kept} {place members : List ℕ} (p : Going s t₀ counts₀ members₀ left w t counts kept place members) where
     pub going-none : left ≤ 0 → (counts ≡ counted counts₀ (runKinds (jobOf s) t₀ (finishing s t₀))) × (t ≡ runTable (jobOf s) t₀ (finishing s t₀))
-    going-none h = ended (turns-none (jobOf s) t left w h)
+    going-none h = partly-end s (p .part) (turns-none (jobOf s) t left w h)
 
     pub going-stop : true ≡ answeredAll (jobOf s) t → (counts ≡ counted counts₀ (runKinds (jobOf s) t₀ (finishing s t₀))) × (t ≡ runTable (jobOf s) t₀ (finishing s t₀))
-    going-stop e = ended (turns-stop (jobOf s) t left w e)
+    going-stop e = partly-end s (p .part) (turns-stop (jobOf s) t left w e)
 
-    module _ (some : 0 < left) (more-to-do : false ≡ answeredAll (jobOf s) t) {kind : Kind} {u next : List ℕ} (made : Made (turn (jobOf s) t w) kind u) (count : next ≡ set counts (kindNumber kind) (getD counts (kindNumber kind) 0 + 1)) {v : ℕ} (after : (v ≡ nextWorker (jobOf s) w) × (v < workers s)) where
-      first : finishTurns left (jobOf s) t w ≡ w ∷ finishTurns (left - 1) (jobOf s) (turn (jobOf s) t w .table) (nextWorker (jobOf s) w)
-      first = turns-more (jobOf s) t left w some more-to-do
-
-      pub going-on : Going s t₀ counts₀ (left - 1) v u next
-      unfolding runTable runKinds counted jobOf
-      going-on =
-          record {
-            range = rw (made .tableIs) (turn-in-range (job-ok s good) (p .range) (p .low));
-            newests = rw (made .tableIs) (turn-kept (job-ok s good) (p .range) (p .low));
-            long = ap length (made .tableIs) ∙ (turn-length _ _ _ ∙ p .long);
-            low = after .1;
-            small = λ k. rw count (omega (arith, one-more counts (kindNumber kind) k, p .small k));
-            tables = p .tables ∙ (ap (runTable (jobOf s) t) first ∙ ap₂ (λ (x : List ℕ) (y : ℕ). runTable (jobOf s) x (finishTurns (left - 1) (jobOf s) x y)) (sym (made .tableIs)) (sym (after .0)));
-            tallies =
-                p .tallies
-                ∙ (ap (λ (x : List ℕ). counted counts (runKinds (jobOf s) t x)) first
-                ∙ (ap₂ (λ (x : List ℕ) (y : ℕ). counted (set counts (kindNumber (turn (jobOf s) t w .kind)) (getD counts (kindNumber (turn (jobOf s) t w .kind)) 0 + 1)) (runKinds (jobOf s) x (finishTurns (left - 1) (jobOf s) x y))) (sym (made .tableIs)) (sym (after .0))
-                ∙ (ap (λ (k : Kind). counted (set counts (kindNumber k) (getD counts (kindNumber k) 0 + 1)) (runKinds (jobOf s) u (finishTurns (left - 1) (jobOf s) u v))) (sym (made .kindIs))
-                ∙ ap (λ (x : List ℕ). counted x (runKinds (jobOf s) u (finishTurns (left - 1) (jobOf s) u v))) (sym count))));
-          }
+    pub going-on :
+        WellFormed s → 0 < left → false ≡ answeredAll (jobOf s) t → {x : Taken} {u place′ members′ : List ℕ} → Done (jobOf s) (turn (jobOf s) t w) x u place′ members′
+        → {next : List ℕ} → next ≡ set counts (kindNumber (x .kind)) (getD counts (kindNumber (x .kind)) 0 + 1) → length members′ ≡ length members
+        → {v : ℕ} → (v ≡ nextWorker (jobOf s) w) × (v < workers s) → Going s t₀ counts₀ members₀ (left - 1) v u next (x .kept) place′ members′
+    going-on good some more {x} {u} done count same {v} after =
+        let first : finishTurns left (jobOf s) t w ≡ w ∷ finishTurns (left - 1) (jobOf s) u v =
+        turns-more (jobOf s) t left w some more
+        ∙ ap₂ (λ (y : List ℕ) (z : ℕ). w ∷ finishTurns (left - 1) (jobOf s) y z) (sym (done .made .tableIs)) (sym (after .0)) in
+        record {
+          most = p .most + 1;
+          part = partly-more s (p .part) good (p .low) done first count same;
+          few = omega (arith, p .few);
+          low = after .1;
+        }
 
 -- the count of turns, from the counts that were read
 module _ (s : List ℕ) (good : WellFormed s) {l a q w : ℕ} (isL : l ≡ literals s) (isA : a ≡ claims s) (isQ : q ≡ questions s) (isW : w ≡ workers s) where

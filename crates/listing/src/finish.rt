@@ -1,15 +1,16 @@
 // The turns after the schedule: workers 0 to T - 1 over and over, none once all is answered.
 // The contracts cite specs/Finish, and `runTable`, `runKinds` and `counted` of the turns' specs.
 ghost use mathlib.Core.Path.{_≡_};
-ghost use Prim.Native.Nat.{ℕ, _≤_, _<_};
-ghost use lib.ListN.{length, getD};
+ghost use Prim.Native.Nat.{ℕ, _<_};
+ghost use lib.ListN.{getD};
 ghost use Rattle.job.specs.Accepted.{WellFormed};
 ghost use Rattle.base.specs.Number.{Number};
-ghost use Rattle.job.specs.Format.{claims, workers as workersOf, jobOf};
+ghost use Rattle.job.specs.Format.{workers as workersOf, jobOf};
 ghost use Rattle.table.specs.Questions.{Listed};
 ghost use Rattle.table.specs.Ranges.{InRange};
 ghost use Rattle.turn.specs.Turn.{runTable, runKinds};
 ghost use Rattle.calls.specs.Calls.{counted as countedOf};
+ghost use Rattle.calls.specs.Rooms.{Room};
 ghost use Rattle.turn.specs.Ready.{Ready};
 ghost use Rattle.listing.specs.Finish.{answeredAll, nextWorker, finishTurns, most};
 use calls::tally;
@@ -74,7 +75,7 @@ fn finish_in(
     requires { ⌜ Ready (now job) (now index) (now table) ⌝ }
     requires { ⌜ Listed (jobOf (now job)) (now asked) ⌝ }
     requires { ⌜ ((k : ℕ) → getD counts k 0 < 4294967296) ⌝ }
-    requires { ⌜ (length (now place) ≡ claims (now job)) × (claims (now job) ≤ length (now members)) × ((c : ℕ) → getD (now place) c 0 ≡ 0) ⌝ }
+    requires { ⌜ Room (now job) (now place) (now members) ⌝ }
     ensures { λ r. ⌜ r ≡ countedOf counts (runKinds (jobOf (now (job .entry))) (now (table .entry)) (finishTurns (most (jobOf (now (job .entry)))) (jobOf (now (job .entry))) (now (table .entry)) 0)) ⌝ }
     ensures { λ r. ⌜ now (table .exit) ≡ runTable (jobOf (now (job .entry))) (now (table .entry)) (finishTurns (most (jobOf (now (job .entry)))) (jobOf (now (job .entry))) (now (table .entry)) 0) ⌝ }
 {

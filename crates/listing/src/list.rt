@@ -1,12 +1,13 @@
 // The whole listing, into a buffer that the caller lends. The contracts cite specs/Listing.
 ghost use mathlib.Core.Path.{_≡_};
-ghost use Prim.Native.Nat.{ℕ, _<_, _≤_};
-ghost use lib.ListN.{length, getD, replicate};
+ghost use Prim.Native.Nat.{_≤_};
+ghost use lib.ListN.{length, replicate};
 ghost use Rattle.writing.specs.Written.{Put};
 ghost use Rattle.job.specs.Accepted.{WellFormed};
 ghost use Rattle.job.specs.Rows.{_⨾_};
-ghost use Rattle.job.specs.Format.{workers as workersOf, jobOf};
+ghost use Rattle.job.specs.Format.{jobOf};
 ghost use Rattle.table.specs.Layout.{mostWords, used};
+ghost use Rattle.calls.specs.Calls.{Named};
 ghost use Rattle.listing.specs.Listing.{mostInput, mostText, listed, listingCheck, listingIf, listCheck, roomLength, roomBytes};
 ghost use Rattle.listing.specs.Told.{Told};
 use crate::Listed;
@@ -22,7 +23,7 @@ pub const MOST_TEXT: usize = 196608;
 // The text of an accepted job, by way of a table of zeros.
 fn list_on(job: &[u8], named: &[u8], table: &mut [u32], out: &mut [u8]) -> usize
     requires { ⌜ WellFormed (now job) ⌝ }
-    requires { ⌜ ((i : ℕ) → i < length (now named) → getD (now named) i 0 < workersOf (now job)) ⌝ }
+    requires { ⌜ Named (now job) (now named) ⌝ }
     requires { ⌜ length (now named) ≤ mostInput ⌝ }
     requires { ⌜ now table ≡ replicate (used (jobOf (now job))) 0 ⌝ }
     requires { ⌜ mostText ≤ length (now out) ⌝ }
@@ -42,7 +43,7 @@ fn blank_words() -> [u32; words::MOST_WORDS]
 // The text of an accepted job and schedule.
 fn list_accepted(job: &[u8], named: &[u8], out: &mut [u8]) -> usize
     requires { ⌜ WellFormed (now job) ⌝ }
-    requires { ⌜ ((i : ℕ) → i < length (now named) → getD (now named) i 0 < workersOf (now job)) ⌝ }
+    requires { ⌜ Named (now job) (now named) ⌝ }
     requires { ⌜ length (now named) ≤ mostInput ⌝ }
     requires { ⌜ mostText ≤ length (now out) ⌝ }
     ensures { λ r. ⌜ Put (now (out .entry)) 0 (listed (jobOf (now (job .entry))) (now (named .entry))) (now (out .exit)) r ⌝ }

@@ -1,13 +1,13 @@
 // The turns of a listing: those that the schedule names, then those that finish. The contract cites `played` of specs/Listing.
 ghost use mathlib.Core.Path.{_≡_};
-ghost use Prim.Native.Nat.{ℕ, _<_, _≤_};
-ghost use lib.ListN.{length, getD};
+ghost use Prim.Native.Nat.{_≤_};
+ghost use lib.ListN.{length};
 ghost use Rattle.job.specs.Accepted.{WellFormed};
-ghost use Rattle.job.specs.Format.{workers as workersOf, jobOf};
+ghost use Rattle.job.specs.Format.{jobOf};
 ghost use Rattle.table.specs.Layout.{used};
 ghost use Rattle.table.specs.Start.{startWords};
 ghost use Rattle.turn.specs.Turn.{runTable, runKinds};
-ghost use Rattle.calls.specs.Calls.{tally as tallyOf};
+ghost use Rattle.calls.specs.Calls.{Named, tally as tallyOf};
 ghost use Rattle.listing.specs.Listing.{mostInput, played};
 use crate::finish;
 use calls::schedule;
@@ -18,7 +18,7 @@ use table::start;
 // Starts the table, takes the turns, and gives their tally.
 pub fn play(job: &[u8], named: &[u8], table: &mut [u32]) -> [u64; 8]
     requires { ⌜ WellFormed (now job) ⌝ }
-    requires { ⌜ ((i : ℕ) → i < length (now named) → getD (now named) i 0 < workersOf (now job)) ⌝ }
+    requires { ⌜ Named (now job) (now named) ⌝ }
     requires { ⌜ length (now named) ≤ mostInput ⌝ }
     requires { ⌜ used (jobOf (now job)) ≤ length (now table) ⌝ }
     ensures { λ r. ⌜ r ≡ tallyOf (runKinds (jobOf (now (job .entry))) (startWords (jobOf (now (job .entry))) (now (table .entry))) (played (jobOf (now (job .entry))) (startWords (jobOf (now (job .entry))) (now (table .entry))) (now (named .entry)))) ⌝ }

@@ -8,7 +8,6 @@ mod misfit;
 mod said;
 mod shape;
 mod sort;
-mod text;
 mod typed;
 
 use console::input;
@@ -37,7 +36,7 @@ fn write_job(job: &[u8]) {
 }
 
 fn make(text: &[u8], out: &mut [u8]) {
-    if text::MOST_BYTES < text.len() {
+    if input::MOST_BYTES < text.len() {
         say(
             b"makejob: the text has over 1,048,576 bytes, more than the lines of any job; split the field\n",
         );
@@ -53,7 +52,7 @@ fn make(text: &[u8], out: &mut [u8]) {
 }
 
 fn main() {
-    let mut text = text::room();
+    let mut text = input::room();
     let mut out = [0u8; checks::MOST_BYTES];
     let read = input::read_input(&mut text);
     let length = read.length;

@@ -16,3 +16,6 @@ pub mod OnTurns
 pub mod Counted
 pub mod Past
 pub mod Bounds
+pub mod Agreeing
+pub mod SameTurns
+pub mod SameChecks

@@ -3,6 +3,8 @@
 ghost use mathlib.Core.Path.{_≡_};
 ghost use Rattle.calls.specs.Calls.{startCheck, startTable, turnCheck, turnAnswer, turnTable, runCheck, runAnswer, runLeft, readCheck, readAnswer};
 ghost use Rattle.turn.specs.Turn.{kindNumber};
+ghost use Rattle.codes.specs.Numbers.{ofWritten};
+ghost use Rattle.records.specs.Answers.{recordCheck, recordTable, recordTally, recordBytes, replayRows, replayCheck, replayTable, replayTally};
 ghost use Rattle.table_calls.specs.Numbers.{ofRefusal, ofCheck, ofTurn, ofReading, ofRead, copied};
 use calls::ReadAnswer;
 use calls::TurnAnswer;
@@ -115,4 +117,38 @@ pub extern "C" fn table_read(job: &[u8], table: &[u32], claim: usize) -> u64
     ensures { λ r. ⌜ r ≡ ofRead (readAnswer (readCheck (now (job .entry)) (now (table .entry)) claim) (now (table .entry)) claim) ⌝ }
 {
     of_read(calls::read(job, table, claim))
+}
+
+// Of a recorded run and of a replay: 0, or 2^63 + number · 2^56 + place for a refusal.
+#[no_mangle]
+pub extern "C" fn table_record(
+    job: &[u8],
+    table: &mut [u32],
+    schedule: &[u8],
+    buffer: &mut [u8],
+    tally: &mut [u64],
+) -> u64
+    ensures { λ r. ⌜ r ≡ ofWritten (recordCheck (now (job .entry)) (now (table .entry)) (now (schedule .entry)) (now (buffer .entry))) 0 ⌝ }
+    ensures { λ r. ⌜ now (table .exit) ≡ recordTable (recordCheck (now (job .entry)) (now (table .entry)) (now (schedule .entry)) (now (buffer .entry))) (now (job .entry)) (now (table .entry)) (now (schedule .entry)) ⌝ }
+    ensures { λ r. ⌜ now (buffer .exit) ≡ recordBytes (recordCheck (now (job .entry)) (now (table .entry)) (now (schedule .entry)) (now (buffer .entry))) (now (job .entry)) (now (table .entry)) (now (schedule .entry)) (now (buffer .entry)) ⌝ }
+    ensures { λ r. ⌜ now (tally .exit) ≡ copied (recordTally (recordCheck (now (job .entry)) (now (table .entry)) (now (schedule .entry)) (now (buffer .entry))) (now (job .entry)) (now (table .entry)) (now (schedule .entry))) (now (tally .entry)) ⌝ }
+{
+    let answer = recording::record_run(job, table, schedule, buffer);
+    let counts = answer.tally;
+    copy_counts(&counts, tally);
+    let check = answer.check;
+    codes::of_written(check, 0)
+}
+
+#[no_mangle]
+pub extern "C" fn table_replay(job: &[u8], table: &mut [u32], log: &[u8], tally: &mut [u64]) -> u64
+    ensures { λ r. ⌜ r ≡ ofWritten (replayCheck (now (job .entry)) (now (table .entry)) (now (log .entry))) 0 ⌝ }
+    ensures { λ r. ⌜ now (table .exit) ≡ replayTable (replayRows (now (job .entry)) (now (table .entry)) (now (log .entry))) (now (job .entry)) (now (table .entry)) (now (log .entry)) ⌝ }
+    ensures { λ r. ⌜ now (tally .exit) ≡ copied (replayTally (replayRows (now (job .entry)) (now (table .entry)) (now (log .entry))) (now (job .entry)) (now (table .entry)) (now (log .entry))) (now (tally .entry)) ⌝ }
+{
+    let answer = recording::replay(job, table, log);
+    let counts = answer.tally;
+    copy_counts(&counts, tally);
+    let check = answer.check;
+    codes::of_written(check, 0)
 }

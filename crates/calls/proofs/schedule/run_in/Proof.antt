@@ -1,20 +1,16 @@
--- `calls::schedule::run_in` meets its contract. The loop's invariant: part of the turns are made, and what is kept is right. Assumes nothing.
+-- `calls::schedule::run_in` meets its contract. The loop's invariant: part of the turns are made. Assumes nothing.
 use Prim.Native.Nat.{_-_}
-use mathlib.Core.Path.{_≡_, refl, sym, _∙_, subst⁻¹}
 use native.Mathlib.Omega.{arith}
-use lib.ListN.{length}
-use Rattle.job.specs.Format.{jobOf}
-use Rattle.table.proofs.Sizes.{sizes}
-use Rattle.turn.specs.KeptSet.{Keeps}
-use Rattle.turn.specs.declared.Kept.{Kept}
-use Rattle.turn.proofs.KeptLaws.{nothing-keeps}
-use Rattle.calls.proofs.Running.{Partly, partly-none, partly-more, partly-all}
+use lib.ListN.{length, drop, replicate, drop-of-length-le}
+use Rattle.base.proofs.Zeros.{zeros-at}
+use Rattle.calls.specs.Calls.{tally}
+use Rattle.calls.proofs.Running.{Partly, partly-start, partly-ready, partly-place, partly-more, partly-end, named-next}
 use Rattle.calls.proofs.schedule.run_in.Statement.{statement}
 use Rattle.calls.proofs.schedule.run_in.Tie as tie
 
 abbrev Inv-loop : tie.InvT-loop
 Inv-loop job index asked table₀ schedule place₀ members₀ counts₀ kept₀ i₀ i-end table place members counts kept i =
-    Partly job table₀ schedule i table counts × Keeps (jobOf job) table kept place members × (length members ≡ length members₀)
+    Partly job table₀ (replicate 8 0) schedule members₀ i (drop i schedule) table counts kept place members
 
 abbrev μ-loop : tie.MeasureT-loop
 μ-loop job index asked table₀ schedule place₀ members₀ counts₀ kept₀ i₀ i-end table place members counts kept i = length schedule - i
@@ -27,16 +23,9 @@ nothing-requires c κs = tt
 
 loop-holds : tie.Need-loop-holds Inv-loop μ-loop
 loop-holds c =
-    let a = c .before .before .before .before .before .before .before .args in
-    let p = c .before .before .before .before .before .before .before .pre in
-    let r = p .0 .0 in
-    let z = sizes (a .job .now) .claims-are in
-    let q = p .1 .1 in (
-      partly-none _ _ _ (r .table) (r .newests) (c .before .no-turns .ensures),
-      subst⁻¹ (λ (x : Kept). Keeps (jobOf (a .job .now)) (a .table .now) x (a .place .now) (a .members .now)) (c .nothing .ensures)
-          (nothing-keeps _ _ _ _ (q .2) (omega (arith, z, r .job .sized .claimsMost)) (q .0 ∙ sym z) (omega (arith, z, q .1))),
-      refl,
-    )
+    let c₁ = c .before .before .before .before .before .before .before in
+    let z = c .before .no-turns .ensures in
+    partly-start _ _ _ _ _ (c₁ .pre .0 .0) (c₁ .pre .1 .1) (c .nothing .ensures) z (λ k. omega (arith, zeros-at 8 z k))
 
 shared-slice-read-byte : tie.Need-shared-slice-read-byte Inv-loop μ-loop
 shared-slice-read-byte c = c .before .loop-test .taken
@@ -46,41 +35,61 @@ byte-requires c κs = tt
 
 take-turn-requires : tie.Need-take-turn-requires Inv-loop μ-loop
 take-turn-requires c κs =
-    let p = c .before .before .before .before .before .before .before .before .before .before .before .before .before .before .pre in
-    let l = c .before .before .before .before .before .before .loop in (
-      record { job = p .0 .0 .job; indexed = p .0 .0 .indexed; table = l .inv .0 .range; newests = l .inv .0 .newests },
-      (p .0 .1, (omega (arith, c .before .before .before .byte .ensures .value, p .1 .0 (l .i) (c .before .before .before .before .before .loop-test .taken)), l .inv .1)),
-    )
+    let c₁ = c .before .before .before in
+    let c₂ = c₁ .before .before in
+    let c₃ = c₂ .before in
+    let c₄ = c₃ .before .before .before .before .before .before .before .before in
+    let p = c₄ .pre in
+    let l = c₃ .loop in
+    (partly-ready _ (l .inv) (p .0 .0), (p .0 .1, (omega (arith, c₁ .byte .ensures .value, p .1 .0 (l .i) (c₂ .loop-test .taken)), l .inv .keeps)))
 
 counted-requires : tie.Need-counted-requires Inv-loop μ-loop
-counted-requires c κs = λ k. omega (arith, c .before .before .before .before .before .before .before .before .before .before .before .before .before .loop .inv .0 .small k, c .before .before .before .before .before .before .before .before .before .before .before .before .loop-test .taken, c .before .before .before .before .before .before .before .before .before .before .before .before .before .before .before .before .before .before .before .before .before .good)
+counted-requires c κs =
+    let c₁ = c .before .before .before .before .before .before .before .before .before .before .before .before in
+    let c₂ = c₁ .before in
+    let c₃ = c₂ .before .before .before .before .before .before .before .before in
+    λ k. omega (arith, c₂ .loop .inv .small k, c₁ .loop-test .taken, c₃ .good)
 
 add-i : tie.Need-add-i Inv-loop μ-loop
-add-i c = omega (arith, c .before .before .before .before .before .before .before .before .before .before .before .before .before .before .loop-test .taken, c .before .before .before .before .before .before .before .before .before .before .before .before .before .before .before .before .before .before .before .before .before .before .before .good)
+add-i c =
+    let c₁ = c .before .before .before .before .before .before .before .before .before .before .before .before .before .before in
+    let c₂ = c₁ .before .before .before .before .before .before .before .before .before in
+    omega (arith, c₁ .loop-test .taken, c₂ .good)
 
 loop-less : tie.Need-loop-less Inv-loop μ-loop
-loop-less c = omega (arith, c .before .before .before .before .before .before .before .before .before .before .before .before .before .before .loop-test .taken)
+loop-less c =
+    let c₁ = c .before .before .before .before .before .before .before .before .before .before .before .before .before .before in
+    omega (arith, c₁ .loop-test .taken)
 
 loop-again : tie.Need-loop-again Inv-loop μ-loop
 loop-again c =
-    let p = c .before .before .before .before .before .before .before .before .before .before .before .before .before .before .before .before .before .before .before .before .before .before .before .pre in
-    let l = c .before .before .before .before .before .before .before .before .before .before .before .before .before .before .before .loop in
-    let t = c .before .before .before .before .before .before .before .before .take-turn in
-    let named = c .before .before .before .before .before .before .before .before .before .before .before .before .byte .ensures .value in
-    let h = p .1 .0 (l .i) (c .before .before .before .before .before .before .before .before .before .before .before .before .before .before .loop-test .taken) in
-    (partly-more _ _ _ (p .0 .0 .job) (l .inv .0) (c .before .before .before .before .before .before .before .before .before .before .before .before .before .before .loop-test .taken) named (omega arith) (t .ensures .made) (c .before .counted .ensures), t .ensures .keeps, t .kept .1 .1 .1 .1 .1 .1 .1 .0 ∙ l .inv .2)
+    let c₁ = c .before .before .before .before .before .before .before .before in
+    let c₂ = c₁ .before .before .before .before in
+    let c₃ = c₂ .before .before in
+    let c₄ = c₃ .before in
+    let c₅ = c₄ .before .before .before .before .before .before .before .before in
+    let p = c₅ .pre in
+    let l = c₄ .loop in
+    let some = c₃ .loop-test .taken in
+    let named = c₂ .byte .ensures .value in
+    let t = c₁ .take-turn in
+    let h = p .1 .0 (l .i) some in
+    partly-more _ (l .inv) (p .0 .0 .job) (omega (arith, named, h)) (t .ensures) (named-next _ some named) (c .before .counted .ensures) (t .kept .1 .1 .1 .1 .1 .1 .1 .0)
 
 same-length : tie.Need-same-length Inv-loop μ-loop
-same-length c = c .before .loop .inv .0 .long
+same-length c = c .before .loop .inv .long
 
 same-length-2 : tie.Need-same-length-2 Inv-loop μ-loop
-same-length-2 c = c .before .loop .inv .1 .gathered .long ∙ (sizes (c .before .before .before .before .before .before .before .before .before .args .job .now) .claims-are ∙ sym (c .before .before .before .before .before .before .before .before .before .pre .1 .1 .0))
+same-length-2 c =
+    let c₁ = c .before .before .before .before .before .before .before .before .before in
+    partly-place _ (c .before .loop .inv) (c₁ .pre .1 .1 .0)
 
 same-length-3 : tie.Need-same-length-3 Inv-loop μ-loop
-same-length-3 c = c .before .loop .inv .2
+same-length-3 c = c .before .loop .inv .wide
 
 returns : tie.Need-returns Inv-loop μ-loop
-returns c = partly-all _ _ _ (c .before .loop .inv .0) (c .loop-test .left)
+unfolding tally
+returns c = partly-end _ (c .before .loop .inv) (drop-of-length-le _ (c .loop-test .left))
 
 pub run-in-spec : {M : Type 1} → statement M
 run-in-spec =

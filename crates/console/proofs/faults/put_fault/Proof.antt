@@ -2,7 +2,7 @@
 use mathlib.Core.Path.{ap}
 use native.Mathlib.Omega.{arith}
 use Rattle.base.specs.Choose.{pick}
-use Rattle.console.specs.Faults.{faultWords}
+use Rattle.console.specs.Faults.{mostFault, faultWords}
 use Rattle.console.proofs.Words.{said, others}
 use borrow.Author.Needs.{needs}
 use Rattle.console.proofs.faults.put_fault.Statement.{statement}
@@ -61,49 +61,49 @@ same-length c = search needs
 
 returns : tie.Need-returns
 unfolding faultWords pick
-returns c = said (c .before .before .before .before .before .before .before .args .number) (ap faultWords (c .before .before .before .before .before .match .keys1)) (omega arith) (c .before .before .before .before .before .before .before .pre) (c .before .before .put-bytes .ensures)
+returns c = said (faultWords (c .before .before .before .before .before .before .before .args .number)) mostFault (ap faultWords (c .before .before .before .before .before .match .keys1)) (omega arith) (c .before .before .before .before .before .before .before .pre) (c .before .before .put-bytes .ensures)
 
 same-length-2 : tie.Need-same-length-2
 same-length-2 c = search needs
 
 returns-2 : tie.Need-returns-2
 unfolding faultWords pick
-returns-2 c = said (c .before .before .before .before .before .before .before .args .number) (ap faultWords (c .before .before .before .before .before .match .keys2)) (omega arith) (c .before .before .before .before .before .before .before .pre) (c .before .before .put-bytes2 .ensures)
+returns-2 c = said (faultWords (c .before .before .before .before .before .before .before .args .number)) mostFault (ap faultWords (c .before .before .before .before .before .match .keys2)) (omega arith) (c .before .before .before .before .before .before .before .pre) (c .before .before .put-bytes2 .ensures)
 
 same-length-3 : tie.Need-same-length-3
 same-length-3 c = search needs
 
 returns-3 : tie.Need-returns-3
 unfolding faultWords pick
-returns-3 c = said (c .before .before .before .before .before .before .before .args .number) (ap faultWords (c .before .before .before .before .before .match .keys3)) (omega arith) (c .before .before .before .before .before .before .before .pre) (c .before .before .put-bytes3 .ensures)
+returns-3 c = said (faultWords (c .before .before .before .before .before .before .before .args .number)) mostFault (ap faultWords (c .before .before .before .before .before .match .keys3)) (omega arith) (c .before .before .before .before .before .before .before .pre) (c .before .before .put-bytes3 .ensures)
 
 same-length-4 : tie.Need-same-length-4
 same-length-4 c = search needs
 
 returns-4 : tie.Need-returns-4
 unfolding faultWords pick
-returns-4 c = said (c .before .before .before .before .before .before .before .args .number) (ap faultWords (c .before .before .before .before .before .match .keys4)) (omega arith) (c .before .before .before .before .before .before .before .pre) (c .before .before .put-bytes4 .ensures)
+returns-4 c = said (faultWords (c .before .before .before .before .before .before .before .args .number)) mostFault (ap faultWords (c .before .before .before .before .before .match .keys4)) (omega arith) (c .before .before .before .before .before .before .before .pre) (c .before .before .put-bytes4 .ensures)
 
 same-length-5 : tie.Need-same-length-5
 same-length-5 c = search needs
 
 returns-5 : tie.Need-returns-5
 unfolding faultWords pick
-returns-5 c = said (c .before .before .before .before .before .before .before .args .number) (ap faultWords (c .before .before .before .before .before .match .keys5)) (omega arith) (c .before .before .before .before .before .before .before .pre) (c .before .before .put-bytes5 .ensures)
+returns-5 c = said (faultWords (c .before .before .before .before .before .before .before .args .number)) mostFault (ap faultWords (c .before .before .before .before .before .match .keys5)) (omega arith) (c .before .before .before .before .before .before .before .pre) (c .before .before .put-bytes5 .ensures)
 
 same-length-6 : tie.Need-same-length-6
 same-length-6 c = search needs
 
 returns-6 : tie.Need-returns-6
 unfolding faultWords pick
-returns-6 c = said (c .before .before .before .before .before .before .before .args .number) (ap faultWords (c .before .before .before .before .before .match .keys6)) (omega arith) (c .before .before .before .before .before .before .before .pre) (c .before .before .put-bytes6 .ensures)
+returns-6 c = said (faultWords (c .before .before .before .before .before .before .before .args .number)) mostFault (ap faultWords (c .before .before .before .before .before .match .keys6)) (omega arith) (c .before .before .before .before .before .before .before .pre) (c .before .before .put-bytes6 .ensures)
 
 same-length-7 : tie.Need-same-length-7
 same-length-7 c = search needs
 
 returns-7 : tie.Need-returns-7
 unfolding faultWords pick
-returns-7 c = said (c .before .before .before .before .before .before .before .args .number) (ap faultWords (c .before .before .before .before .before .match .keys7)) (omega arith) (c .before .before .before .before .before .before .before .pre) (c .before .before .put-bytes7 .ensures)
+returns-7 c = said (faultWords (c .before .before .before .before .before .before .before .args .number)) mostFault (ap faultWords (c .before .before .before .before .before .match .keys7)) (omega arith) (c .before .before .before .before .before .before .before .pre) (c .before .before .put-bytes7 .ensures)
 
 same-length-8 : tie.Need-same-length-8
 same-length-8 c = search needs
@@ -111,7 +111,7 @@ same-length-8 c = search needs
 returns-8 : tie.Need-returns-8
 returns-8 c =
     let n = c .before .before .before .before .before .match .rest in
-    said (c .before .before .before .before .before .before .before .args .number) (others _ (n .0 .0 .0 .0 .0 .0 .1) (n .0 .0 .0 .0 .0 .1) (n .0 .0 .0 .0 .1) (n .0 .0 .0 .1) (n .0 .0 .1) (n .0 .1) (n .1)) (omega arith) (c .before .before .before .before .before .before .before .pre)
+    said (faultWords (c .before .before .before .before .before .before .before .args .number)) mostFault (others _ (n .0 .0 .0 .0 .0 .0 .1) (n .0 .0 .0 .0 .0 .1) (n .0 .0 .0 .0 .1) (n .0 .0 .0 .1) (n .0 .0 .1) (n .0 .1) (n .1)) (omega arith) (c .before .before .before .before .before .before .before .pre)
     (c .before .before .put-bytes8 .ensures)
 
 pub put-fault-spec : {M : Type 1} → statement M

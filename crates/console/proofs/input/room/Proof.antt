@@ -1,9 +1,9 @@
--- `makejob::text::room` meets its contract. Assumes nothing.
+-- `console::input::room` meets its contract. Assumes nothing.
 use mathlib.Core.Path.{sym}
 use Prim.Native.Nat.{ℕ}
 use lib.ListN.{length-replicate}
-use Rattle.makejob.proofs.text.room.Statement.{statement}
-use Rattle.makejob.proofs.text.room.Tie as tie
+use Rattle.console.proofs.input.room.Statement.{statement}
+use Rattle.console.proofs.input.room.Tie as tie
 
 returns : tie.Need-returns
 returns c = sym (length-replicate {A = ℕ} 1048577 0)

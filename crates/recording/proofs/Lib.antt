@@ -1,0 +1,4 @@
+pub mod Noted
+pub mod Naming
+pub mod FollowLoop
+pub mod Answering

@@ -1,0 +1,9 @@
+pub mod Recorded
+pub mod Pairs
+pub mod Held
+pub mod Restarted
+pub mod ByRows
+pub mod FirstOfLists
+pub mod Promised
+pub mod Worked
+pub mod Lawful

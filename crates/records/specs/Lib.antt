@@ -1,0 +1,5 @@
+pub mod Record
+pub mod Answers
+pub mod Lists
+pub mod Worked
+pub mod Laws
