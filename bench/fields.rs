@@ -5,7 +5,7 @@ use oracle::checks::{part_input, Job};
 use oracle::draft::{plain, Draft};
 use oracle::jobs::generate;
 use oracle::orders::Orders;
-use oracle::turns::run_listing;
+use oracle::turns::whole_schedule;
 
 /// A made field: the job, then the schedule.
 pub fn made(kind: &str, seed: u64) -> Vec<u8> {
@@ -78,17 +78,10 @@ pub struct Field {
     pub schedule: Vec<u8>,
 }
 
-/// The made schedule, then workers in turn until all is answered.
-fn whole_schedule(job: &Job, made: &[u8]) -> Vec<u8> {
-    let mut schedule = Vec::new();
-    run_listing(job, Orders::in_force(), made, false, |_, worker, _| schedule.push(worker as u8));
-    schedule
-}
-
 fn make_field(kind: &'static str, seed: u64) -> Field {
     let input = made(kind, seed);
     let (bytes, made) = part_input(&input);
-    Field { kind, seed, bytes: bytes.to_vec(), schedule: whole_schedule(&job_of(bytes), made) }
+    Field { kind, seed, bytes: bytes.to_vec(), schedule: whole_schedule(&job_of(bytes), Orders::in_force(), made) }
 }
 
 /// The fields on which runs are timed, of the kinds that are wanted.

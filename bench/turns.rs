@@ -29,10 +29,7 @@ fn run_ours(field: &Field, words: &mut [u32]) -> [u64; 8] {
 fn run_oracle(field: &Field, by_text: bool, words: &mut [u32]) -> [u64; 8] {
     let job = job_of(&field.bytes);
     let mut table = Table::start(&job, Orders::in_force(), by_text);
-    let mut tally = [0; 8];
-    for &worker in &field.schedule {
-        tally[table.turn(u32::from(worker)) as usize] += 1;
-    }
+    let tally = table.run(&field.schedule);
     words.copy_from_slice(&table.words);
     tally
 }

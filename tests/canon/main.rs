@@ -6,6 +6,7 @@
 mod arguments;
 mod beside;
 #[path = "../lines/codes.rs"]
+#[allow(dead_code)]
 mod codes;
 #[path = "../compare/counts.rs"]
 mod counts;
@@ -32,7 +33,7 @@ mod totals;
 
 use std::ops::Range;
 
-use arguments::{kinds_named, refuse, seeds};
+use arguments::{each_kind, refuse, seeds};
 use counts::missing_unmet;
 use made::{compare_edges, compare_made, compare_small};
 use parts::{part, run};
@@ -139,16 +140,12 @@ fn command(all: &mut Totals, words: &[&str]) {
         ["lengths"] => compare_lengths(all),
         ["calls"] => compare_calls(all),
         ["made", kinds, from, count] => {
-            for kind in kinds_named(kinds, &GATE) {
-                compare_kind(all, &kind, seeds(from, count, USAGE));
-            }
+            each_kind(kinds, &GATE, seeds(from, count, USAGE), |kind, seeds| compare_kind(all, kind, seeds))
         }
         ["program"] => run_program(all, &Program::find()),
         ["program", kinds, from, count] => {
             let program = Program::find();
-            for kind in kinds_named(kinds, &GATE_RUNS) {
-                run_kind(all, &program, &kind, seeds(from, count, USAGE));
-            }
+            each_kind(kinds, &GATE_RUNS, seeds(from, count, USAGE), |kind, seeds| run_kind(all, &program, kind, seeds))
         }
         _ => refuse(USAGE),
     }

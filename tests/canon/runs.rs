@@ -10,7 +10,7 @@ use oracle::orders::Orders;
 
 use crate::beside::form_of;
 use crate::made::{made_job, made_partner};
-use crate::process::{fault_of_output, outputs, path_of, spawn};
+use crate::process::{fault_of_output, is_one_line, outputs, path_of, says_check, spawn};
 use crate::totals::Totals;
 
 /// The sorts of runs: refused by a check, a form, a form that goes through the program
@@ -45,17 +45,10 @@ pub struct Program {
     path: String,
 }
 
-/// Exactly one line of words.
-fn is_one_line(said: &str) -> bool {
-    said.ends_with('\n') && said.matches('\n').count() == 1 && said.starts_with("canonjob: ")
-}
-
 /// Whether a refusal is said with its number and its place, which for an input longer
 /// than any job is one byte more than a job may have.
 fn says(said: &str, refusal: &Refusal) -> bool {
-    let place = refusal.place.min(MAX_JOB_BYTES + 1);
-    let (start, end) = (format!("canonjob: refused by check {}: ", refusal.number), format!(" {place}\n"));
-    is_one_line(said) && said.starts_with(&start) && said.ends_with(&end)
+    says_check("canonjob", said, refusal.number, refusal.place.min(MAX_JOB_BYTES + 1))
 }
 
 impl Program {
@@ -129,7 +122,7 @@ pub fn run_unwritten(totals: &mut Totals, program: &Program) {
         totals.jobs += 1;
         totals.run[UNWRITTEN] += 1;
         let said = String::from_utf8_lossy(&output.stderr);
-        if !output.status.success() || !is_one_line(&said) || !said.contains("writ") {
+        if !output.status.success() || !is_one_line("canonjob", &said) || !said.contains("writ") {
             totals.differ("full", &job, &format!("canonjob: to /dev/full it says {said:?}"));
         }
     }

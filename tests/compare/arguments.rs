@@ -3,11 +3,11 @@
 use std::ops::Range;
 use std::process::exit;
 
-/// The kinds of jobs named, or all of the gate's.
-pub fn kinds_named(names: &str, gate: &[(&str, u64)]) -> Vec<String> {
+/// Gives these seeds to each of the kinds of jobs named, or to all of the gate's.
+pub fn each_kind(names: &str, gate: &[(&str, u64)], seeds: Range<u64>, mut give: impl FnMut(&str, Range<u64>)) {
     match names {
-        "all" => gate.iter().map(|(kind, _)| kind.to_string()).collect(),
-        _ => names.split(',').map(str::to_string).collect(),
+        "all" => gate.iter().for_each(|(kind, _)| give(kind, seeds.clone())),
+        _ => names.split(',').for_each(|kind| give(kind, seeds.clone())),
     }
 }
 

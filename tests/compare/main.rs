@@ -14,7 +14,7 @@ use std::io::{Read, Write};
 use std::ops::Range;
 use std::process::exit;
 
-use arguments::{kinds_named, refuse, seeds};
+use arguments::{each_kind, refuse, seeds};
 use compare::Totals;
 use counts::missing_unmet;
 use oracle::checks::{part_input, MAX_INPUT_BYTES};
@@ -137,12 +137,9 @@ fn command(all: &mut Totals, words: &[&str]) {
             part(all, "long jobs", lengths::long_jobs);
             part(all, "long outputs", lengths::long_outputs);
         }
-        ["made", kinds, from, count] => {
-            let seeds = seeds(from, count, USAGE);
-            for kind in kinds_named(kinds, &GATE) {
-                part(all, &kind, |totals| compare_made(totals, &kind, seeds.clone()));
-            }
-        }
+        ["made", kinds, from, count] => each_kind(kinds, &GATE, seeds(from, count, USAGE), |kind, seeds| {
+            part(all, kind, |totals| compare_made(totals, kind, seeds));
+        }),
         ["verdicts"] => {
             print_verdicts();
             exit(0);

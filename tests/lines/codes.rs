@@ -13,6 +13,11 @@ pub fn code_of<T: AsRef<[u8]>>(answer: &Result<T, Refusal>) -> u64 {
     }
 }
 
+/// The code for a check alone: 0 where it accepts.
+pub fn code_of_check(check: &Result<(), Refusal>) -> u64 {
+    code_of(&check.map(|()| [0; 0]))
+}
+
 /// A code in words.
 pub fn said(code: u64) -> String {
     match code >> 63 {

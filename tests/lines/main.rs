@@ -6,6 +6,7 @@
 #[allow(dead_code)]
 mod arguments;
 mod beside;
+#[allow(dead_code)]
 mod codes;
 #[path = "../compare/counts.rs"]
 #[allow(dead_code)]
@@ -18,6 +19,7 @@ mod library;
 mod mapped;
 #[path = "../compare/parts.rs"]
 mod parts;
+#[allow(dead_code)]
 mod process;
 mod program;
 mod totals;

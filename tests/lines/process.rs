@@ -43,6 +43,25 @@ pub fn outputs<const N: usize>(bytes: &[u8], mut programs: [Child; N]) -> [Outpu
     })
 }
 
+/// What two programs write, the first being given an input and the second its output.
+pub fn piped(bytes: &[u8], first: &str, second: &str) -> [Output; 2] {
+    let mut one = spawn(first, Stdio::piped(), Stdio::piped());
+    let between = one.stdout.take().expect("standard output is a pipe");
+    let other = spawn(second, between, Stdio::piped());
+    outputs(bytes, [one, other])
+}
+
+/// Exactly one line of a program's words.
+pub fn is_one_line(program: &str, said: &str) -> bool {
+    said.ends_with('\n') && said.matches('\n').count() == 1 && said.starts_with(&format!("{program}: "))
+}
+
+/// One line that names the check and ends with the place.
+pub fn says_check(program: &str, said: &str, number: u32, place: usize) -> bool {
+    let start = format!("{program}: refused by check {number}: ");
+    is_one_line(program, said) && said.starts_with(&start) && said.ends_with(&format!(" {place}\n"))
+}
+
 /// What is wrong with what a program wrote, where `answer` is right and `says` tells
 /// whether words say a refusal.
 pub fn fault_of_output(
@@ -79,10 +98,7 @@ impl Programs {
 
     /// What verdicts writes for the job that makejob writes.
     pub fn list(&self, text: &[u8]) -> Output {
-        let mut maker = spawn(&self.makejob, Stdio::piped(), Stdio::piped());
-        let job = maker.stdout.take().expect("standard output is a pipe");
-        let lister = spawn(&self.verdicts, job, Stdio::piped());
-        let [_, listing] = outputs(text, [maker, lister]);
+        let [_, listing] = piped(text, &self.makejob, &self.verdicts);
         listing
     }
 }

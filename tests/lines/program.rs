@@ -9,18 +9,13 @@ use oracle::lines_sorts::sort_of;
 use oracle::listing::listing;
 use oracle::orders::Orders;
 
-use crate::process::{fault_of_output, Programs};
+use crate::process::{fault_of_output, is_one_line, Programs};
 use crate::totals::Totals;
 
 /// The most that the program reads.
 const MOST_TEXT: usize = 1_048_576;
 /// Jobs of up to so many bytes are listed.
 const SHORT_JOB: usize = 2_000;
-
-/// Exactly one line of words.
-fn is_one_line(said: &str) -> bool {
-    said.ends_with('\n') && said.matches('\n').count() == 1 && said.starts_with("makejob: ")
-}
 
 /// The first number that is said to be a line's.
 fn line_named(said: &str) -> Option<usize> {
@@ -30,7 +25,7 @@ fn line_named(said: &str) -> Option<usize> {
 
 /// Whether a refusal is said with its line.
 fn says(said: &str, refusal: &Refusal) -> bool {
-    is_one_line(said) && line_named(said) == Some(refusal.place)
+    is_one_line("makejob", said) && line_named(said) == Some(refusal.place)
 }
 
 /// The listing of a short job that comes through a pipe.
@@ -84,7 +79,7 @@ pub fn compare_long_texts(totals: &mut Totals, programs: &Programs) {
             totals.count_text(&text);
             totals.too_long += 1;
             let said = String::from_utf8_lossy(&output.stderr);
-            let right = is_one_line(&said) && said.replace(',', "").contains(&MOST_TEXT.to_string());
+            let right = is_one_line("makejob", &said) && said.replace(',', "").contains(&MOST_TEXT.to_string());
             if !output.stdout.is_empty() || !output.status.success() || !right {
                 totals.differ(name, &text, &format!("{length} bytes: it says {said:?}"));
             }
@@ -100,7 +95,7 @@ pub fn compare_unwritten(totals: &mut Totals, programs: &Programs) {
         totals.count_text(text.as_bytes());
         totals.unwritten += 1;
         let said = String::from_utf8_lossy(&output.stderr);
-        if !output.status.success() || !is_one_line(&said) || !said.contains("writ") {
+        if !output.status.success() || !is_one_line("makejob", &said) || !said.contains("writ") {
             totals.differ("full", text.as_bytes(), &format!("to /dev/full it says {said:?}"));
         }
     }

@@ -17,7 +17,7 @@ use std::ops::Range;
 use std::process::exit;
 use std::sync::atomic::{AtomicU64, Ordering};
 
-use arguments::{kinds_named, refuse, seeds};
+use arguments::{each_kind, refuse, seeds};
 use counts::missing_unmet;
 use oracle::edges::edge_cases;
 use oracle::orders::Orders;
@@ -132,10 +132,7 @@ fn command(all: &mut Totals, words: &[&str]) {
         [] => list_gate(all),
         ["edges"] => list_edges(all),
         ["made", kinds, from, count] => {
-            let seeds = seeds(from, count, USAGE);
-            for kind in kinds_named(kinds, &GATE) {
-                list_made(all, &kind, seeds.clone());
-            }
+            each_kind(kinds, &GATE, seeds(from, count, USAGE), |kind, seeds| _ = list_made(all, kind, seeds))
         }
         _ => refuse(USAGE),
     }

@@ -5,16 +5,16 @@ use crate::order_edges::{field, EdgeCall, OrderEdge};
 
 /// Two claims, 0 if 1, 1 if 0; worker 0 asks 0, worker 1 asks 1.  With third
 /// words: claims at 8 and 11, workers at 14 and 17, questions at 20 and 21.
-fn pair() -> Draft {
+pub fn pair() -> Draft {
     field(2, 2, &[(0, &[plain(1)]), (1, &[plain(0)])], &[(0, 0), (1, 1)])
 }
 
-const STARTED: [u32; 22] = [22, 2, 2, 2, 8, 14, 20, 0, 0, 0, 0, 0, 0, 0, 0, 0, 0, 0, 0, 0, 0, 0];
+pub const STARTED: [u32; 22] = [22, 2, 2, 2, 8, 14, 20, 0, 0, 0, 0, 0, 0, 0, 0, 0, 0, 0, 0, 0, 0, 0];
 
 /// Each worker has opened its claim.
 const OPENED: [u32; 22] = [22, 2, 2, 2, 8, 14, 20, 2, 1, 0, 1, 2, 0, 2, 0, 0, 1, 0, 0, 2, 0, 0];
 
-fn with(words: &[u32], changes: &[(usize, u32)]) -> Vec<u32> {
+pub fn with(words: &[u32], changes: &[(usize, u32)]) -> Vec<u32> {
     let mut words = words.to_vec();
     for &(at, word) in changes {
         words[at] = word;

@@ -7,6 +7,7 @@ use crate::missing_edges::edges_of_exchange;
 use crate::newest_edges::{edges_before_newest, edges_of_newest};
 use crate::orders::{Missing, Newest, Orders, Skip};
 use crate::table::{Table, OPENED_COUNT};
+use crate::turns::Tally;
 
 /// The call that is made on the table.
 #[derive(Clone)]
@@ -47,18 +48,14 @@ pub fn edge_fault(edge: &OrderEdge, orders: Orders) -> Option<String> {
 fn answer_on(edge: &OrderEdge, orders: Orders, words: &mut Vec<u32>) -> Result<String, Refusal> {
     let job = Job::check(&edge.job, orders)?;
     if let EdgeCall::Start = edge.call {
-        let started = Table::start(&job, orders, true).words;
-        if words.len() < started.len() {
-            return refuse(9, started.len());
-        }
-        words[..started.len()].copy_from_slice(&started);
+        *words = Table::start_lent(&job, orders, true, words.clone())?.words;
         return Ok("started".to_string());
     }
     let mut table = Table::from_words(&job, orders, words.clone())?;
     let answer = match &edge.call {
         EdgeCall::Turn(worker) if *worker as usize >= job.workers => return refuse(11, 0),
         EdgeCall::Turn(worker) => table.turn(*worker).name().to_string(),
-        EdgeCall::Run(schedule) => check_schedule(&job, schedule).map(|()| tally_text(&mut table, schedule))?,
+        EdgeCall::Run(schedule) => check_schedule(&job, schedule).map(|()| tally_text(table.run(schedule)))?,
         EdgeCall::Read(claim) if *claim as usize >= job.claims => return refuse(12, 0),
         EdgeCall::Read(claim) => table.mark(*claim).to_string(),
         EdgeCall::Start => unreachable!(),
@@ -67,13 +64,8 @@ fn answer_on(edge: &OrderEdge, orders: Orders, words: &mut Vec<u32>) -> Result<S
     Ok(answer)
 }
 
-fn tally_text(table: &mut Table, schedule: &[u8]) -> String {
-    let mut tally = [0u64; 8];
-    for &worker in schedule {
-        tally[table.turn(u32::from(worker)) as usize] += 1;
-    }
-    let counts = tally.map(|count| count.to_string());
-    format!("tally {}", counts.join(" "))
+fn tally_text(tally: Tally) -> String {
+    format!("tally {}", tally.map(|count| count.to_string()).join(" "))
 }
 
 pub fn field(claims: usize, workers: usize, rules: &[(usize, &[u16])], asks: &[(usize, usize)]) -> Draft {

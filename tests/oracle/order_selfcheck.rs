@@ -22,6 +22,8 @@ use crate::partners_check::{self, PartnersTotals};
 use crate::partners_readings::PARTNERS_READINGS;
 use crate::promises::ensure;
 use crate::readings::{shown_by_lists, shown_by_tables, worded, wrong_readings};
+use crate::record_check::{self, RecordTotals};
+use crate::record_readings::RECORD_READINGS;
 use crate::shortcuts::{check_shortcuts, Lists};
 use crate::small_fields::make_small_field;
 use crate::table::Table;
@@ -258,6 +260,28 @@ impl Checked {
         }
     }
 
+    /// What order 11 says, in second ways, and wrong readings of it.
+    fn records_in_other_ways(&mut self) {
+        let mut totals = RecordTotals::default();
+        self.faults.extend(record_check::check_edges(worded(), &mut totals));
+        self.faults.extend(record_check::check_seeds(0..600, worded(), &mut totals));
+        self.faults.extend(record_check::check_short_records(0..120, worded(), &mut totals));
+        self.lines.push(format!(
+            "order 11 in second ways: {} edge cases, {} days, {} calls, {} accepted, refused by number {:?}; {} short \
+             records, {} accepted; readings shown {:?}",
+            totals.edges,
+            totals.days,
+            totals.calls,
+            totals.accepted,
+            totals.refused,
+            totals.short,
+            totals.short_accepted,
+            totals.shown
+        ));
+        let unshown = RECORD_READINGS.iter().zip(totals.shown).filter(|(_, count)| *count == 0);
+        self.faults.extend(unshown.map(|((name, _), _)| format!("no call shows a wrong reading of order 11: {name}")));
+    }
+
     fn faults_found(&mut self) {
         for (name, found) in seeded_faults(3000) {
             match found {
@@ -297,6 +321,7 @@ pub fn check_orders() -> Checked {
     checked.forms_in_other_ways();
     checked.partners_in_other_ways();
     checked.clear_in_other_ways();
+    checked.records_in_other_ways();
     checked.faults_found();
     for kind in ["tiny", "small", "failing"] {
         checked.readings_told_apart(kind);

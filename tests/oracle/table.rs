@@ -93,6 +93,18 @@ impl<'a> Table<'a> {
         }
     }
 
+    /// Starting on lent words: check 9.  Words past those used stay.
+    pub fn start_lent(job: &'a Job, orders: Orders, by_text: bool, words: Vec<u32>) -> Result<Table<'a>, Refusal> {
+        let mut table = Table::start(job, orders, by_text);
+        let used = table.layout.used;
+        if words.len() < used {
+            return refuse(9, used);
+        }
+        let started = std::mem::replace(&mut table.words, words);
+        table.words[..used].copy_from_slice(&started);
+        Ok(table)
+    }
+
     /// A lent table: checks 9 and 10.  It follows the text without shortcuts,
     /// since no run need have made it.
     pub fn from_words(job: &'a Job, orders: Orders, words: Vec<u32>) -> Result<Table<'a>, Refusal> {

@@ -7,7 +7,7 @@ use oracle::partners_edges::PartnersEdge;
 use oracle::partners_jobs::Shared;
 use oracle::partners_readings::count_shown;
 
-use crate::codes::{self, code_of};
+use crate::codes::{self, code_of_check};
 use crate::lent::Input;
 use crate::library;
 use crate::totals::{Totals, ADMITTED, CLAIMS_LIST, FOREIGN, TWO_GROUPS, WORKERS_LIST};
@@ -51,11 +51,6 @@ fn lend(bytes: &[u8]) -> Input {
     Input::between(&[77; 64], bytes, &[77; 64])
 }
 
-/// The code for an answer: 0 where the job is admitted.
-pub fn code_for(answer: &Answer) -> u64 {
-    code_of(&answer.map(|()| [0; 0]))
-}
-
 /// A code in words.
 pub fn said(code: u64) -> String {
     match code {
@@ -68,7 +63,7 @@ pub fn said(code: u64) -> String {
 fn fault_of(job: &[u8], claims: &[u8], workers: &[u8], answer: &Answer) -> Option<String> {
     let lent = [job, claims, workers].map(lend);
     let code = library::admit(lent[0].bytes(), lent[1].bytes(), lent[2].bytes());
-    let right = code_for(answer);
+    let right = code_of_check(answer);
     if code != right {
         return Some(format!("{}, expected {}", said(code), said(right)));
     }

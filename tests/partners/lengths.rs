@@ -3,7 +3,8 @@
 use oracle::checks::refuse;
 use oracle::draft::Draft;
 
-use crate::beside::{code_for, said};
+use crate::beside::said;
+use crate::codes::code_of_check;
 use crate::library;
 use crate::mapped::Mapped;
 use crate::totals::Totals;
@@ -26,7 +27,7 @@ pub fn long_lent(totals: &mut Totals) {
         ];
         totals.calls += calls.len();
         for (code, number, place) in calls {
-            let right = code_for(&refuse(number, place));
+            let right = code_of_check(&refuse(number, place));
             if code != right {
                 totals.differ("a long job or list", &job, &format!("{}, expected {}", said(code), said(right)));
             }

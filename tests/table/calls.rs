@@ -5,7 +5,7 @@ use std::fmt;
 
 use oracle::checks::{check_schedule, refuse, Job, Refusal};
 use oracle::orders::Orders;
-use oracle::table::{Layout, Table};
+use oracle::table::Table;
 
 use crate::library;
 use crate::met::Met;
@@ -87,10 +87,11 @@ impl Call {
         let mut tally = [0; 8];
         let answer = match self {
             Call::Start => {
-                start_words(table.job, &mut table.words);
-                table.newest.iter_mut().for_each(|heap| heap.clear());
-                table.found = None;
-                Ok(0)
+                let words = std::mem::take(&mut table.words);
+                Table::start_lent(table.job, table.orders, table.by_text, words).map(|started| {
+                    *table = started;
+                    0
+                })
             }
             Call::Turn(worker) if *worker >= table.job.workers => refuse(11, 0),
             Call::Turn(worker) => Ok(met.turn(table, *worker as u32) as u64),
@@ -112,15 +113,11 @@ impl Call {
             Err(refusal) => return Given::refused(*refusal),
             Ok(job) => job,
         };
-        if let Call::Start = self {
-            let used = Layout::of_job(job, Orders::in_force()).used;
-            if words.len() < used {
-                return Given::refused(Refusal { number: 9, place: used });
-            }
-            start_words(job, words);
-            return Given { code: 0, tally: [0; 8] };
-        }
-        match Table::from_words(job, Orders::in_force(), words.clone()) {
+        let lent = match self {
+            Call::Start => Table::start_lent(job, Orders::in_force(), true, words.clone()),
+            _ => Table::from_words(job, Orders::in_force(), words.clone()),
+        };
+        match lent {
             Err(refusal) => Given::refused(refusal),
             Ok(mut table) => {
                 let given = self.by_oracle(&mut table, met);
@@ -129,12 +126,6 @@ impl Call {
             }
         }
     }
-}
-
-/// Starting: the words used, and no word after these.
-fn start_words(job: &Job, words: &mut [u32]) {
-    let started = Table::start(job, Orders::in_force(), true).words;
-    words[..started.len()].copy_from_slice(&started);
 }
 
 impl fmt::Display for Call {

@@ -30,7 +30,7 @@ mod words;
 use std::ops::Range;
 use std::process::exit;
 
-use arguments::{kinds_named, refuse, seeds};
+use arguments::{each_kind, refuse, seeds};
 use counts::missing_unmet;
 use oracle::jobs::generate;
 use oracle::orders::Orders;
@@ -128,9 +128,9 @@ fn command(all: &mut Totals, words: &[&str]) {
                 ["whole"] => usize::MAX,
                 _ => refuse(USAGE),
             };
-            for kind in kinds_named(kinds, &GATE) {
-                part(all, &kind, |totals| compare_made(totals, &kind, seeds.clone(), work));
-            }
+            each_kind(kinds, &GATE, seeds, |kind, seeds| {
+                part(all, kind, |totals| compare_made(totals, kind, seeds, work));
+            })
         }
         _ => refuse(USAGE),
     }

@@ -16,12 +16,11 @@ use lib.ListN.{length, getD, set, drop}
 use lib.Seq.{drop-cons}
 use Rattle.job.specs.Format.{claims, workers, jobOf}
 use Rattle.job.specs.Accepted.{WellFormed}
-use Rattle.job.specs.Claims.{Index}
 use Rattle.table.specs.Newest.{NewestKept}
 use Rattle.table.specs.Ranges.{InRange}
 use Rattle.table.proofs.Sizes.{sizes}
 use Rattle.turn.specs.Turn.{kindNumber, turn, runTable, runKinds}
-use Rattle.turn.specs.Ready.{Ready, Made}
+use Rattle.turn.specs.Ready.{Ready}
 use Rattle.turn.specs.KeptSet.{Keeps, Done}
 use Rattle.turn.specs.declared.Kept.{Kept}
 use Rattle.turn.specs.declared.Taken.{Taken}

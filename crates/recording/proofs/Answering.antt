@@ -3,32 +3,29 @@
 --   recorded-last, -stop, -then, -all   a recorded run, refused by its last rows or by its first ones, and where they pass
 --   replayed-last, -stop, -as   the same of a replay
 --   replayed-all, -false   a replay whose pairs all hold, and one with a false pair, whose turns are taken again from a new start
-use Prim.Native.Nat.{ℕ, _*_, _≤_, _<_}
+use Prim.Native.Nat.{ℕ, _*_, _≤_}
 use mathlib.Core.Path.{_≡_, refl, sym, _∙_, ap, ap₂, subst}
 use mathlib.Core.List.{List, _++_}
 use native.Mathlib.Omega.{arith}
-use lib.ListN.{length, getD, take, drop, replicate}
+use lib.ListN.{length, take, drop, replicate}
 use lib.Seq.{take-all}
 use Rattle.base.proofs.Compare.{under-yes, under-no, under-le}
-use Rattle.job.specs.Format.{workers, jobOf}
+use Rattle.job.specs.Format.{jobOf}
 use Rattle.job.specs.Rows.{_⨾_}
-use Rattle.job.specs.Accepted.{WellFormed}
 use Rattle.job.specs.declared.Check.{Check}
 use Rattle.job.specs.declared.Check.the-variants.{Accepted, Refused}
 use Rattle.job.proofs.Rows.{pass, stop, go, halt, both, row-no}
-use Rattle.job.proofs.Accepted.{well-formed}
 use Rattle.table.specs.Layout.{used}
 use Rattle.table.specs.Newest.{NewestKept}
 use Rattle.table.specs.Ranges.{InRange}
 use Rattle.table.specs.Start.{startWords}
-use Rattle.table.proofs.Ranges.{enough-room}
 use Rattle.turn.specs.Turn.{runTable, runKinds}
 use Rattle.steps.proofs.Starting.{start-started, started-range, started-newests}
 use Rattle.calls.specs.Calls.{Named, checkSchedule, tally}
 use Rattle.calls.specs.declared.RunAnswer.{RunAnswer}
 use Rattle.calls.proofs.Answering.{schedule-low}
 use Rattle.records.specs.Record.{recordOf, pairs, workersIn, held}
-use Rattle.records.specs.Answers.{checkBuffer, recordCheck, recordTable, recordTally, recordBytes, Recorded, checkPairs, replayTable, replayTally, Replayed}
+use Rattle.records.specs.Answers.{checkBuffer, recordTable, recordTally, recordBytes, Recorded, checkPairs, replayTable, replayTally, Replayed}
 use Rattle.recording.specs.Following.{FollowedTo}
 use Rattle.recording.specs.declared.Followed.{Followed}
 use Rattle.records.proofs.Pairs.{workers-length}
@@ -41,8 +38,8 @@ unfolding checkBuffer
 record-good s ws buf e = let p = both _ _ e in (schedule-low s ws (p .0), under-le _ _ (row-no _ _ _ (both _ _ (p .1) .0)))
 
 -- a started table is ready for turns
-pub started-ready : (s t : List ℕ) → WellFormed s → used (jobOf s) ≤ length t → {u : List ℕ} → u ≡ startWords (jobOf s) t → InRange (jobOf s) u × NewestKept (jobOf s) u
-started-ready s t good room {u} e =
+pub started-ready : (s t : List ℕ) → used (jobOf s) ≤ length t → {u : List ℕ} → u ≡ startWords (jobOf s) t → InRange (jobOf s) u × NewestKept (jobOf s) u
+started-ready s t room {u} e =
     let a = start-started (jobOf s) t room in
     (subst (InRange (jobOf s)) (sym e) (started-range a), subst (NewestKept (jobOf s)) (sym e) (started-newests a))
 

@@ -2,7 +2,7 @@
 --   Noted           after i turns, with the table t: what stands in the buffer, and where the next pair goes
 --   noted-none, -size, -room, -more, -all   nothing yet; the buffer's length; room for a pair; one turn more; all
 use Prim.Native.Nat.{ℕ, _+_, _*_, _≤_, _<_}
-use mathlib.Core.Path.{_≡_, refl, sym, _∙_, ap, ap₂}
+use mathlib.Core.Path.{_≡_, sym, _∙_, ap, ap₂}
 use mathlib.Core.List.{List, [], _∷_, _++_}
 use native.Mathlib.Omega.{arith}
 use lib.ListN.{length, getD, drop, length-drop, drop-of-length-le}

@@ -1,6 +1,6 @@
 // The turns of a schedule, taken and noted down: worker and kind of each. The contracts cite `recordOf` of the crate `records`.
 ghost use mathlib.Core.Path.{_≡_};
-ghost use mathlib.Core.List.{List, _∷_, [], _++_};
+ghost use mathlib.Core.List.{_∷_, [], _++_};
 ghost use Prim.Native.Nat.{_*_, _+_, _≤_};
 ghost use lib.ListN.{length, drop};
 ghost use Rattle.job.specs.Format.{claims, jobOf};

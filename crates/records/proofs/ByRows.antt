@@ -28,7 +28,7 @@ use Rattle.job.proofs.Rows.{pass, stop, go, halt, scan-none, scan-at}
 use Rattle.table.specs.Layout.{used}
 use Rattle.table.specs.Ranges.{checkRoom}
 use Rattle.turn.specs.Turn.{kindNumber, turn, runTable}
-use Rattle.calls.specs.Calls.{Named, startCheck, checkSchedule}
+use Rattle.calls.specs.Calls.{startCheck, checkSchedule}
 use Rattle.calls.specs.Promise.{Fresh}
 use Rattle.records.specs.Record.{recordOf, pairs, workersIn, held}
 use Rattle.records.specs.Answers.{checkBuffer, recordCheck, checkOdd, checkPairs, replayRows, replayCheck}

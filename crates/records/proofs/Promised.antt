@@ -2,7 +2,7 @@
 --   refused-row     which row refused, and where
 --   ends-in, before, runs, once, bytes, elsewhere   the clauses of OnRecord
 --   unstarted       the clause of Answered
-use Prim.Native.Nat.{ℕ, _*_, _%_, _≤_, _<_}
+use Prim.Native.Nat.{ℕ, _*_, _%_, _≤_}
 use mathlib.Core.Path.{_≡_, refl, sym, _∙_, ap, subst}
 use mathlib.Core.Bool.{Bool, true, false}
 use mathlib.Core.List.{List, [], _++_}

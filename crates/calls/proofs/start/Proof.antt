@@ -1,10 +1,8 @@
 -- `calls::start` meets its contract. Assumes nothing.
-use mathlib.Core.Path.{refl, sym, _∙_, ap}
-use mathlib.Core.List.{List}
-use Prim.Native.Nat.{ℕ}
+use mathlib.Core.Path.{sym, _∙_, ap}
 use borrow.Author.Needs.{needs}
 use Rattle.job.specs.declared.Check.{Check}
-use Rattle.calls.specs.Calls.{startCheck, startTable}
+use Rattle.calls.specs.Calls.{startTable}
 use Rattle.calls.proofs.Answering.{start-good}
 use Rattle.calls.proofs.Demands.{promise}
 use Rattle.calls.proofs.start.Statement.{statement}

@@ -23,7 +23,7 @@ record-turns-requires c κs =
     let c₃ = c₂ .before .before .before in
     let c₄ = c₃ .before .before .before .before .before in
     let p = c₄ .pre in
-    let r = started-ready _ _ (p .0) (p .1 .0) (c₁ .write-start .ensures) in
+    let r = started-ready _ _ (p .1 .0) (c₁ .write-start .ensures) in
     ((record { job = p .0; indexed = c₃ .index-claims .ensures; table = r .0; newests = r .1 }, c₂ .index-questions .ensures), (p .1 .1 .0, p .1 .1 .1))
 
 same-length : tie.Need-same-length

@@ -26,7 +26,7 @@ follow-requires c κs =
     let c₃ = c₂ .before .before .before in
     let c₄ = c₃ .before .before .before .before in
     let p = c₄ .pre in
-    let r = started-ready _ _ (p .0) (p .1) (c₁ .write-start .ensures) in
+    let r = started-ready _ _ (p .1) (c₁ .write-start .ensures) in
     (record { job = p .0; indexed = c₃ .index-claims .ensures; table = r .0; newests = r .1 }, c₂ .index-questions .ensures)
 
 same-length : tie.Need-same-length
@@ -61,7 +61,7 @@ follow-requires-2 c κs =
     let c₅ = c₄ .before .before .before in
     let c₆ = c₅ .before .before .before .before in
     let p = c₆ .pre in
-    let r = started-ready _ (c₂ .follow .last .1 .1 .1 .0) (p .0) (omega (arith, p .1, c₂ .follow .kept .1 .1 .1 .0, c₃ .write-start .kept .1 .0)) (c₁ .write-start2 .ensures) in
+    let r = started-ready _ (c₂ .follow .last .1 .1 .1 .0) (omega (arith, p .1, c₂ .follow .kept .1 .1 .1 .0, c₃ .write-start .kept .1 .0)) (c₁ .write-start2 .ensures) in
     (record { job = p .0; indexed = c₅ .index-claims .ensures; table = r .0; newests = r .1 }, c₄ .index-questions .ensures)
 
 same-length-2 : tie.Need-same-length-2

@@ -1,7 +1,6 @@
 -- `listing::finish::finish_in` meets its contract. The loop's invariant: part of the finishing turns are made. The measure is how many are left at most. Assumes nothing.
 use mathlib.Core.Path.{sym, _∙_}
 use native.Mathlib.Omega.{arith}
-use lib.ListN.{length}
 use Rattle.calls.proofs.Running.{partly-ready, partly-place}
 use Rattle.listing.proofs.Finishing.{Going, going-start, going-on, going-none, going-stop}
 use Rattle.listing.proofs.finish.finish_in.Statement.{statement}

@@ -2,7 +2,6 @@
 use Prim.Native.Nat.{_-_}
 use mathlib.Core.Path.{refl, sym, _∙_}
 use native.Mathlib.Omega.{arith}
-use lib.ListN.{length}
 use Rattle.job.proofs.Accepted.{header-room}
 use Rattle.calls.proofs.Running.{partly-ready, partly-place}
 use Rattle.recording.proofs.FollowLoop.{Following, following-start, following-more, following-past, following-other, following-all}

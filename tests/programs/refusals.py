@@ -1,4 +1,5 @@
-"""Inputs that the listing program refuses: a name, the bytes, and the line."""
+"""Inputs that are refused, a job and behind it a schedule or a record: a name, the bytes,
+and the line of a listing."""
 from fields import (CLAIMS, LITERALS, LITERALS_AT, NOT, QUESTIONS, QUESTIONS_AT, RULES, RULES_AT, SMALLEST, TOTAL, TWO, WORKERS,
                     field, halves, long, turns, words)
 
@@ -16,13 +17,6 @@ LENGTHS = [
     ("61,477 bytes, first word above them", words(long(TWO, 61477), (TOTAL, 61478)), "refused 1 61477"),
     ("a job of 65,536 bytes", words(long(TWO, 65536), (TOTAL, 65536)), "refused 1 65536"),
     ("65,536 bytes, first word 65,537", words(long(TWO, 65536), (TOTAL, 65537)), "refused 1 65536"),
-    ("65,537 bytes, a good job in them", long(TWO, 65537), "refused 1 65537"),
-    ("65,537 bytes, first word 65,537", words(long(TWO, 65537), (TOTAL, 65537)), "refused 1 65537"),
-    ("65,537 bytes, first word 61,477", words(long(TWO, 65537), (TOTAL, 61477)), "refused 1 65537"),
-    ("65,537 bytes, a bad schedule", long(TWO + b"\x02", 65537), "refused 1 65537"),
-    ("65,538 bytes", long(TWO, 65538), "refused 1 65537"),
-    ("131,072 bytes", long(TWO, 131072), "refused 1 65537"),
-    ("1,000,000 bytes", long(TWO, 1000000), "refused 1 65537"),
     ("first word above the input by 1", words(TWO, (TOTAL, 65)), "refused 2 0"),
     ("first word 4,294,967,295", words(TWO, (TOTAL, 2 ** 32 - 1)), "refused 2 0"),
     ("first word above the input, counts bad", words(TWO, (TOTAL, 65), (CLAIMS, 4097)), "refused 2 0"),
@@ -84,6 +78,20 @@ PARTS = [
     ("claim asked negated", halves(TWO, (54, NOT + 1)), "refused 8 52"),
     ("a question where A is 0", field(0, 1, [], [(0, 0)]), "refused 8 36"),
     ("question before schedule", turns(halves(TWO, (52, 2)), (0, 2)), "refused 8 52"),
+]
+
+# By the listing program alone: of the input's length, and of the schedule.
+INPUTS = [
+    ("65,537 bytes, a good job in them", long(TWO, 65537), "refused 1 65537"),
+    ("65,537 bytes, first word 65,537", words(long(TWO, 65537), (TOTAL, 65537)), "refused 1 65537"),
+    ("65,537 bytes, first word 61,477", words(long(TWO, 65537), (TOTAL, 61477)), "refused 1 65537"),
+    ("65,537 bytes, a bad schedule", long(TWO + b"\x02", 65537), "refused 1 65537"),
+    ("65,538 bytes", long(TWO, 65538), "refused 1 65537"),
+    ("131,072 bytes", long(TWO, 131072), "refused 1 65537"),
+    ("1,000,000 bytes", long(TWO, 1000000), "refused 1 65537"),
+]
+
+SCHEDULES = [
     ("first turn of T", turns(TWO, (0, 2)), "refused 11 0"),
     ("fourth turn of T", turns(TWO, (3, 2)), "refused 11 3"),
     ("last turn of T", turns(TWO, (7, 2)), "refused 11 7"),
