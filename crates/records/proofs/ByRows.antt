@@ -26,10 +26,10 @@ use Rattle.job.specs.declared.Check.{Check}
 use Rattle.job.specs.declared.Check.the-variants.{Accepted, Refused}
 use Rattle.job.proofs.Rows.{pass, stop, go, halt, scan-none, scan-at}
 use Rattle.table.specs.Layout.{used}
-use Rattle.table.specs.Ranges.{checkRoom}
 use Rattle.turn.specs.Turn.{kindNumber, turn, runTable}
 use Rattle.calls.specs.Calls.{startCheck, checkSchedule}
 use Rattle.calls.specs.Promise.{Fresh}
+use Rattle.calls.proofs.Taken as Calls
 use Rattle.records.specs.Record.{recordOf, pairs, workersIn, held}
 use Rattle.records.specs.Answers.{checkBuffer, recordCheck, checkOdd, checkPairs, replayRows, replayCheck}
 use Rattle.records.specs.Laws.{started, Given, FalseAt, RunAnswered, ReplayAnswered}
@@ -42,6 +42,10 @@ past : (x y : ℕ) → notBelow x y ≡ true → y ≤ x
 unfolding notBelow
 past x y e = leb-true y x e
 
+-- a check c answers exactly what P says, if P says nothing else, and something
+exactly-by : (P : Check → Type 0) (c : Check) → ((x : Check) → P x → x ≡ c) → (x : Check) × P x → (y : Check) → (c ≡ y) ↔ P y
+exactly-by P c of g y = (λ e. subst P (of (g .0) (g .1) ∙ e) (g .1), λ p. sym (of y p))
+
 -- rows 1 to 9
 module _ (s t : List ℕ) where
   first-stops : {n p : ℕ} → checkJob s ≡ Refused n p → Refused n p ≡ startCheck s t
@@ -49,12 +53,10 @@ module _ (s t : List ℕ) where
   first-stops e = halt _ _ refl (sym e)
 
   short-stops : checkJob s ≡ Accepted → length t < used (jobOf s) → Refused 9 (used (jobOf s)) ≡ startCheck s t
-  unfolding startCheck checkRoom
-  short-stops e l = go _ _ refl (sym e) (stop _ _ _ _ (under-yes _ _ l))
+  short-stops e l = sym (Calls.starts s t (sym e) .short l .0)
 
   pub starts : checkJob s ≡ Accepted → Fresh s t → Accepted ≡ startCheck s t
-  unfolding startCheck checkRoom
-  starts e l = go _ _ refl (sym e) (pass _ _ _ _ (under-no _ _ l) refl)
+  starts e l = sym (Calls.starts s t (sym e) .long l .0)
 
 -- a recorded run
 module _ (s t ws buf : List ℕ) where
@@ -81,10 +83,7 @@ module _ (s t ws buf : List ℕ) where
       by-cases (decLt (length t) (used (jobOf s))) (λ l. (Refused 9 (used (jobOf s)), Laws.short e l)) (λ l. by-schedule e (omega arith) (first-of _ (length ws)))
 
   pub run-exactly : (x : Check) → (recordCheck s t ws buf ≡ x) ↔ RunAnswered s t ws buf x
-  run-exactly x =
-      let a = run-given (checkJob s) refl in
-      let r = subst (RunAnswered s t ws buf) (run-of (a .1)) (a .1) in
-      (λ e. subst (RunAnswered s t ws buf) e r, λ g. sym (run-of g))
+  run-exactly = exactly-by (RunAnswered s t ws buf) (recordCheck s t ws buf) (λ x. run-of) (run-given (checkJob s) refl)
 
 -- a replay, past rows 1 to 9
 module _ (s t : List ℕ) (e : checkJob s ≡ Accepted) (room : Fresh s t) where
@@ -209,7 +208,4 @@ module _ (s t r : List ℕ) where
       by-cases (decLt (length t) (used (jobOf s))) (λ l. (Refused 9 (used (jobOf s)), Laws.short e l)) (λ l. by-length e (omega arith))
 
   pub replay-exactly : (x : Check) → (replayCheck s t r ≡ x) ↔ ReplayAnswered s t r x
-  replay-exactly x =
-      let a = replay-given (checkJob s) refl in
-      let y = subst (ReplayAnswered s t r) (replay-of (a .1)) (a .1) in
-      (λ q. subst (ReplayAnswered s t r) q y, λ g. sym (replay-of g))
+  replay-exactly = exactly-by (ReplayAnswered s t r) (replayCheck s t r) (λ x. replay-of) (replay-given (checkJob s) refl)

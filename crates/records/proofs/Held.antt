@@ -8,23 +8,22 @@
 --   front-pairs, front-workers, front-held   the bytes of the pairs that hold, by themselves
 use Prim.Native.Nat.{ℕ, zero, suc, _+_, _*_, _≤_, _<_}
 use mathlib.Core.Path.{_≡_, refl, sym, _∙_, ap, ap₂}
-use mathlib.Core.Bool.{Bool, true, false, not, _&&_}
+use mathlib.Core.Bool.{Bool, true, false, not}
 use mathlib.Core.List.{List, [], _∷_}
 use native.Mathlib.Omega.{arith}
 use lib.ListN.{length, getD, take, drop}
 use lib.Seq.{length-take-le}
 use Rattle.base.specs.Compare.{notBelow, differs}
+use Rattle.base.proofs.Bools.{neither}
 use Rattle.base.proofs.Compare.{notBelow-lt, differs-eq}
 use Rattle.job.specs.Job.{Job}
 use Rattle.turn.specs.Turn.{kindNumber, turn, runTable}
 use Rattle.records.specs.Record.{recordOf, pairs, workersIn, gives, held}
 use Rattle.records.proofs.Pairs.{gives-yes, held-more, held-none}
 
-both-no : (x y : Bool) → (not x && not y) ≡ true → (x ≡ false) × (y ≡ false)
-both-no true true e = let z : _≡_ {A = ℕ} 0 1 = cc in absurd (omega arith)
-both-no true false e = let z : _≡_ {A = ℕ} 0 1 = cc in absurd (omega arith)
-both-no false true e = let z : _≡_ {A = ℕ} 0 1 = cc in absurd (omega arith)
-both-no false false e = (refl, refl)
+denied : (b : Bool) → not b ≡ true → b ≡ false
+denied true e = let z : _≡_ {A = ℕ} 0 1 = cc in absurd (omega arith)
+denied false e = refl
 
 by-test : {P : Type 0} (b : Bool) → (b ≡ true → P) → (b ≡ false → P) → P
 by-test true f g = f refl
@@ -32,13 +31,15 @@ by-test false f g = g refl
 
 module _ (j : Job) where
   module _ (t : List ℕ) (w k : ℕ) (e : gives j t w k ≡ true) where
-    pub gives-low : w < j .workers
+    neither-is : (notBelow w (j .workers) ≡ false) × (differs k (kindNumber (turn j t w .kind)) ≡ false)
     unfolding gives
-    gives-low = notBelow-lt _ _ (both-no (notBelow w (j .workers)) (differs k (kindNumber (turn j t w .kind))) e .0)
+    neither-is = neither _ _ (denied _ e)
+
+    pub gives-low : w < j .workers
+    gives-low = notBelow-lt _ _ (neither-is .0)
 
     pub gives-kind : k ≡ kindNumber (turn j t w .kind)
-    unfolding gives
-    gives-kind = differs-eq _ _ (both-no (notBelow w (j .workers)) (differs k (kindNumber (turn j t w .kind))) e .1)
+    gives-kind = differs-eq _ _ (neither-is .1)
 
   pub held-most : (r t : List ℕ) → held j t r ≤ pairs r
   unfolding held

@@ -5,7 +5,7 @@
 --   gives j t w k     worker w and kind k are a turn on the table t: w is below T, and k is the number of its turn's kind
 --   held j t r        how many pairs hold before the first false one, each turn taken on the table that those before it leave
 use Prim.Native.Nat.{ℕ, suc, _/_}
-use mathlib.Core.Bool.{Bool, not, _&&_}
+use mathlib.Core.Bool.{Bool, not, _||_}
 use mathlib.Core.List.{List, [], _∷_}
 use lib.ListN.{length}
 use Rattle.base.specs.Choose.{pick}
@@ -28,7 +28,7 @@ workersIn (w ∷ k ∷ r) = w ∷ workersIn r
 
 -- "a pair whose worker is not below T or whose kind isn't the turn's" is false
 unfoldable pub gives : Job → List ℕ → ℕ → ℕ → Bool
-gives j t w k = not (notBelow w (j .workers)) && not (differs k (kindNumber (turn j t w .kind)))
+gives j t w k = not (notBelow w (j .workers) || differs k (kindNumber (turn j t w .kind)))
 
 -- "goes through the pairs"
 unfoldable pub held : Job → List ℕ → List ℕ → ℕ
