@@ -2,6 +2,7 @@
 --   checkBuffer, checkOdd, checkPairs   rows 25, 23 and 24
 --   recordCheck, replayRows, replayCheck   the rows of a recorded run; those of a replay before any turn, and all of them
 --   recordTable, recordBytes, recordTally  a recorded run: the table at exit, the buffer at exit, the tally
+--   heldTurns j t r                        the workers of the pairs that hold: the turns that a replay leaves
 --   replayTable, replayTally               a replay: the table at exit, the tally
 --   Recorded, Replayed                     what each call gave: its answer r, the table u, and the buffer b
 use Prim.Native.Nat.{ℕ, _*_, _%_}

@@ -1,6 +1,7 @@
 -- Lists of calls that begin with a recorded run (02, order 11: "In demand 3's lists a run that starts its table comes only first.").
---   listed x ws xs       the calls of such a list by 01: those of a run in its place where its check x accepts, and else those behind it
---   begun s t ws buf xs  the table after it, from t freshly started; begunTurns, begunHistory   its turns
+--   first s t ws buf     the table after the recorded run alone, on a table t that is started; firstTurns   the workers of its turns
+--   begun s t ws buf xs  the table after it and then the calls xs, from t freshly started; begunTurns, begunHistory   their turns
+--   listed x ws xs       a list of 01's calls in place of such a one: a run where its check x accepts, and else nothing, and then xs
 --   OneOfLists           it has the table, the turns and the history of a list of single turns, runs and readings: what Promise says of all of
 --                        those it says of all of these
 use Prim.Native.Nat.{ℕ}
@@ -14,14 +15,11 @@ use Rattle.calls.specs.Lists.{Call, running, after, unless, turnsOf, Event, run
 use Rattle.calls.specs.Promise.{from, history}
 use Rattle.records.specs.Answers.{recordCheck, recordTable}
 
-unfoldable pub listed : Check → List ℕ → List Call → List Call
-listed Accepted ws xs = running ws ∷ xs
-listed (Refused number place) ws xs = xs
-
--- of a table that is started: "A refused call .. make[s] none.", and leaves the table as it was
+-- refused, it leaves the table as it was, freshly started
 abbrev pub first : List ℕ → List ℕ → List ℕ → List ℕ → List ℕ
 first s t ws buf = recordTable (recordCheck s t ws buf) s t ws
 
+-- "A refused call and a reading make none."
 abbrev pub firstTurns : List ℕ → List ℕ → List ℕ → List ℕ → List ℕ
 firstTurns s t ws buf = unless (recordCheck s t ws buf) ws
 
@@ -34,6 +32,10 @@ begunTurns s t ws buf xs = firstTurns s (startWords (jobOf s) t) ws buf ++ turns
 abbrev pub begunHistory : List ℕ → List ℕ → List ℕ → List ℕ → List Call → List Event
 begunHistory s t ws buf xs =
     runEvents (jobOf s) (startWords (jobOf s) t) (firstTurns s (startWords (jobOf s) t) ws buf) ++ events s (first s (startWords (jobOf s) t) ws buf) xs
+
+unfoldable pub listed : Check → List ℕ → List Call → List Call
+listed Accepted ws xs = running ws ∷ xs
+listed (Refused number place) ws xs = xs
 
 pub record OneOfLists (s t ws buf : List ℕ) (xs calls : List Call) : Type 0 where
   pub table : begun s t ws buf xs ≡ from s t calls
