@@ -77,9 +77,10 @@ replays =
     replay job 22 (set log 5 4) (Refused 24 2) ∷
     replay job 22 (set log 15 0) (Refused 24 7) ∷
     replay job 22 (set log 5 8) (Refused 24 2) ∷
-    -- a worker that isn't below T, in the first pair and in the last; one of the job's, whose turn is of another kind
+    -- a worker that isn't below T, in the first pair and in the last, and also where it is said to be idle; one of the job's, whose turn is of another kind
     replay job 22 (set log 0 2) (Refused 24 0) ∷
     replay job 22 (set log 14 255) (Refused 24 7) ∷
+    replay job 22 (2 ∷ 0 ∷ []) (Refused 24 0) ∷
     replay job 22 (set log 6 0) (Refused 24 3) ∷
     replay job 22 (take 15 log) (Refused 23 15) ∷
     replay job 22 (9 ∷ []) (Refused 23 1) ∷
