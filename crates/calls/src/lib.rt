@@ -1,6 +1,8 @@
 // The calls that users make over a shared table: start, turn, run, read. Each checks the rows of the check table in its order, refuses
 // with number and place and no word altered, and else gives what specs/Calls says. The contract of `start` has the promise on whole lists
 // of calls (specs/Promise).
+#![tactic(auto)]
+
 ghost use Rattle.std.specs.Prelude.{◌≡◌};
 ghost use Rattle.job.specs.Rows.{◌⨾◌};
 ghost use Rattle.job.specs.Format.{job_of};

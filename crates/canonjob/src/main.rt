@@ -2,6 +2,8 @@
 // say the same exactly where their forms are the same bytes. A job that is refused gives no byte there, and one line on standard
 // error that says in words what is wrong and where. `canonical` of crate canon has the contract of what is written; no contract can say
 // that the system writes it, so the functions here have none: they are safe, they end, and stored tests hold their words.
+#![tactic(auto)]
+
 use canon::canonical::canonical;
 use console::{faults, input};
 use job::{Check, checks};

@@ -1,6 +1,8 @@
 // How often small rule sets stay undefined: the handbook's table, a line for each of the sizes 1, 2 and 3 (02, order 12), on standard output. Nothing is read.
 // `put_table` has the contract of what is written; no contract can say that the system writes it, so `main` has none: it is safe, it ends, and stored tests
 // hold its words.
+#![tactic(auto)]
+
 mod lines;
 
 use libc::{STDERR_FILENO, STDOUT_FILENO};

@@ -1,4 +1,6 @@
 // The answer of a call that writes bytes, as one number, for programs in other languages (specs/Numbers).
+#![tactic(auto)]
+
 ghost use Rattle.std.specs.Prelude.{◌≡◌};
 ghost use Rattle.codes.specs.Numbers.{of_written};
 

@@ -1,5 +1,7 @@
 // How often small rule sets stay undefined (02, order 12): the rule sets of a size, one after the other, each written as a job that is evaluated and worked on
 // by one worker. What the sets, their jobs and the five numbers are, and what the call promises, stands in the crate `rulesets`.
+#![tactic(auto)]
+
 ghost use Rattle.std.specs.Prelude.{◌≡◌, ◌≤◌};
 ghost use Rattle.rulesets.specs.Census.{census_of, census_answer};
 ghost use Rattle.rulesets.specs.Laws.{Laws};

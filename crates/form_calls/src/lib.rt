@@ -1,5 +1,7 @@
 // The calls on forms for programs in other languages, so that tests can hold them to a program of other authorship.
 // Thin over the crate canon: each answer becomes one number (specs/Numbers).
+#![tactic(auto)]
+
 ghost use Rattle.std.specs.Prelude.{◌≡◌};
 ghost use Rattle.form_calls.specs.Numbers.{of_comparison, FormAnswered, OrderAnswered};
 

@@ -1,5 +1,7 @@
 // Partners with unpublished claims (02, order 8): the call that admits a job, `admit`. The contracts cite specs/: Groups (rows 20 and 21), Admission (what
 // users may rely on).
+#![tactic(auto)]
+
 ghost use Rattle.std.specs.Prelude.{◌≡◌, length};
 ghost use Rattle.job.specs.Accepted.{WellFormed};
 ghost use Rattle.job.specs.Claims.{Index};

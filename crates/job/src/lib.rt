@@ -1,5 +1,7 @@
 // The bytes of a job: reading its parts, checking it (rows 1 to 8 of the check table), and the index of its claims.
 // The contracts cite specs/: Job and Format (what the bytes mean), Checks (the table), Claims (a claim's literals).
+#![tactic(auto)]
+
 pub mod bytes;
 pub mod checks;
 pub mod claims;

@@ -1,5 +1,7 @@
 // The call on typed lines for programs in other languages, so that tests can hold it to a reader of other authorship.
 // Thin over the crate lines: the answer becomes one number (specs/Numbers).
+#![tactic(auto)]
+
 ghost use Rattle.line_calls.specs.Numbers.{Answered};
 
 #[unsafe(no_mangle)]

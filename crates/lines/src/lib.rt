@@ -2,6 +2,8 @@
 // specs/ for readers: Lines (what a text says, and its job), Checks (rows 15 and 16), Laws (row 14, and all that is promised).
 // The other contracts cite Grammar and Fitting (row 14 along the bytes), Numbering (row 15), Room (row 16), Noting and Placing (the
 // rules by head).
+#![tactic(auto)]
+
 mod fits;
 pub mod grammar;
 mod note;

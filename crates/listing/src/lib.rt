@@ -1,4 +1,6 @@
 // The listing: from the input bytes to the bytes of the text.
+#![tactic(auto)]
+
 mod finish;
 pub mod input;
 mod lines;

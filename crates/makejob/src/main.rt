@@ -1,6 +1,8 @@
 // Rules typed as lines: reads a text from standard input and writes its job to standard output. A text that is refused
 // gives no byte there, and one line on standard error: which line is at fault, why, and what would do. `make_job` (typed) has the
 // contract of what is written; no contract can say that the system writes it.
+#![tactic(auto)]
+
 mod digits;
 mod limits;
 mod line;

@@ -1,5 +1,7 @@
 // The day's turns on record (02, order 11): a run that starts its table and writes worker and kind of each turn, and the replay of such a record. What a record
 // is, and what the two calls answer, leave and promise, stands in the crate `records`.
+#![tactic(auto)]
+
 ghost use Rattle.std.specs.Prelude.{◌≡◌, ◌*◌, ◌≤◌, length};
 ghost use Rattle.job.specs.Rows.{◌⨾◌};
 ghost use Rattle.job.specs.Format.{job_of};

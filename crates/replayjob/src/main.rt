@@ -2,6 +2,8 @@
 // that the record says, it writes the job and behind it the schedule to standard output, so that `verdicts` lists the day. An input of 1,048,576 bytes has room for 493,550 turns of the largest job. A day that is refused gives no byte there,
 // and one line on standard error that says which pair is false and what its turn is. `replay` of the crate `recording` has the contract of what is accepted; no
 // contract can say that the system writes it, so the functions here have none: they are safe, they end, and stored tests hold their words.
+#![tactic(auto)]
+
 use base::wide;
 use calls::{TurnAnswer, tally};
 use console::{faults, input, kinds};

@@ -1,5 +1,6 @@
 // No code but the types of the answer: the rule sets of a size, each as a job, how many make claim 0 true, false and undefined, and which needs most turns
 // (specs/ and proofs/; 02, order 12). Crate counting counts them.
+#![tactic(auto)]
 
 // The five numbers of a size: how many sets make claim 0 true, false, undefined; the place of the first set that needs most changing turns, and those turns.
 #[derive(Drop)]

@@ -1,5 +1,7 @@
 // The words of a table: layout, the checks of its length and words (rows 9 and 10), starting, stores, reading a claim, and each worker's newest
 // claim; and each worker's questions. The contracts cite specs/: Layout, Ranges, Start, Reading, Newest, Questions.
+#![tactic(auto)]
+
 pub mod checks;
 pub mod literals;
 pub mod newest;

@@ -1,5 +1,7 @@
 // The table's calls for programs in other languages, so that tests can hold them to an evaluator of other authorship.
 // Thin over the crate calls: each answer becomes one number (specs/Numbers).
+#![tactic(auto)]
+
 ghost use Rattle.std.specs.Prelude.{◌≡◌};
 ghost use Rattle.calls.specs.Calls.{start_check, start_table, turn_check, turn_answer, turn_table, run_check, run_answer, run_left, read_check, read_answer};
 ghost use Rattle.turn.specs.Turn.{kind_number};

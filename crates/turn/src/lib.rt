@@ -1,6 +1,8 @@
 // One turn of a worker over the words of a shared table: the parts of a turn, and `take_turn`, the whole of it.
 // The contracts cite specs/: Turn (what a turn does), Ready (what the functions are lent), Gather (its queue of claims), KeptSet (what is
 // kept from turn to turn).
+#![tactic(auto)]
+
 ghost use Rattle.std.specs.Prelude.{◌≡◌, List, ℕ, ◌<◌};
 ghost use Rattle.job.specs.Format.{workers as workers_of, job_of};
 ghost use Rattle.job.specs.Accepted.{WellFormed};

@@ -2,6 +2,8 @@
 // input is refused, one line on standard error that says in words what is wrong and where. An input that can't be read is not listed.
 // `list` of crate listing has the contract of what is written; no contract can say that the system writes it, so the functions here
 // have none: they are safe, they end, and stored tests hold their words.
+#![tactic(auto)]
+
 use console::{faults, input};
 use job::Check;
 use libc::{STDERR_FILENO, STDOUT_FILENO};

@@ -1,5 +1,7 @@
 // The two functions that a program in C calls: the check of a job, and plain evaluation. Thin over the crates job and model.
 // The contracts cite specs/Code for the code that they answer, and the specs of those crates for the rest.
+#![tactic(auto)]
+
 ghost use Rattle.std.specs.Prelude.{◌≡◌, length};
 ghost use Rattle.job.specs.Checks.{check_job};
 ghost use Rattle.job.specs.Reading.{Reading};
