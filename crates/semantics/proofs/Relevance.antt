@@ -111,18 +111,18 @@ module _ (P Q : Program) (X : ℕ → Type 0) (at : ℕ → ℕ) (stands : Stand
       comes i b plain each n l (instead e m k u) =
           subst⁻¹ (λ (y : Literal). T (holds S' (D Q S') y)) e (not_T (S' i) (λ t. n (own i m u (each m k) t)))
 
-      into-derived : (i : ℕ) → X i → Derived P S (at i) → T (D Q S' i)
-      into-derived i x (rule b h m p n) =
+      into-derived : (i v : ℕ) → X i → Derived P S v → v ≡ at i → T (D Q S' i)
+      into-derived i v x (rule b h m p n) e =
           by_cases (t? (D Q S' i)) (λ t. t)
           (λ no. ⊎_elim (λ f. absurd (failed f))
-          (λ q. fires Q S' i q.0 q.1 (λ l k. comes i b (λ d y k'. into-derived d y (p (at d) k')) (fired P S b p n) no l (q.2 l k)))
-          (stands.kept i b x (h, m)))
+          (λ q. fires Q S' i q.0 q.1 (λ l k. comes i b (λ d y k'. into-derived d (at d) y (p (at d) k') refl) (fired P S b p n) no l (q.2 l k)))
+          (stands.kept i b x (subst (λ (y : ℕ). RuleOf P y b) e (h, m))))
         where
           failed : Failed P b → ⊥
           failed (by l k e) = not_false l e (fired P S b p n l k)
 
       into : (i : ℕ) → X i → T (D P S (at i)) → T (D Q S' i)
-      into i x t = into-derived i x ((D-derived P S (at i)).0 t)
+      into i x t = into-derived i (at i) x ((D-derived P S (at i)).0 t) refl
 
   -- what is true in P holds; and what is undefined does, where the head is not in the set that stands against it
   module _
