@@ -18,6 +18,23 @@ ID = r"[A-Za-z_\u03b1-\u03ba\u03bc-\u03c9][A-Za-z0-9_'\u2080-\u2089?\u207b\u00b9
 EASY = {"omega arith", "search rules", "tt", "refl", "(search rules)", "λ _. tt"}
 
 
+REFS = {}
+
+
+def by_nest(fields, ls):
+    """The label of a path into clauses that are nested to the right, and what is left of the path."""
+    if len(ls) < 2:
+        return fields
+    k = 0
+    while k < len(ls) - 1 and k < len(fields) and fields[k] == "1":
+        k += 1
+    if k == len(ls) - 1:
+        return [ls[k]] + fields[k:]
+    if k < len(fields) and fields[k] == "0":
+        return [ls[k]] + fields[k + 1 :]
+    return fields
+
+
 def norm(s):
     return s.replace("_", "-")
 
@@ -29,7 +46,7 @@ def labels_of(root):
         parts = f.split("/crates/")[1].split("/")
         crate, mods = parts[0], [p.removesuffix(".rt") for p in parts[2:]]
         mods = [m for m in mods if m not in ("lib", "main", "mod")]
-        imp, fn = None, None
+        imp, fn, grab = None, None, None
         for line in open(f, encoding="utf-8"):
             m = re.match(r"^impl(?:<[^>]*>)?\s+(\w+)", line)
             if m:
@@ -40,6 +57,14 @@ def labels_of(root):
             if m:
                 fn = "::".join([crate] + ([] if imp else mods) + ([imp] if imp else []) + [m.group(1)])
                 out[fn] = ([], [])
+                REFS[fn] = []
+                grab = fn
+            if grab:
+                inside = line.split("(", 1)[1] if "fn " in line and "(" in line else line
+                for m in re.finditer(r"(?:^|[\s,(&])(?:mut )?(self\b|\w+(?=: ))", inside.split("->")[0]):
+                    REFS[grab].append(m.group(1))
+                if ") " in line or line.rstrip().endswith(")") or "{" in line:
+                    grab = None
             m = re.match(r"^\s+(requires|ensures)\*?(?:\s+(\w+))?\s*\{", line)
             if m and fn:
                 out[fn][0 if m.group(1) == "requires" else 1].append(m.group(2) or "")
@@ -163,8 +188,39 @@ def turn(text, fn, place, goal, todo, var="c"):
         if not done:
             break
 
+    # names for the whole of a contract's clauses, or for a call's step
+    clause = {}
+    for m in re.finditer(r"let (" + ID + r") = (" + ID + r")((?:\.before)*)\.requires in(?=\s)", text):
+        if m.group(2) in alias:
+            clause[m.group(1)] = fn.labels.get(fn.fn, ([], []))[0]
+    for m in re.finditer(r"let (" + ID + r") = (" + ID + r")((?:\.before)*)\.([\w-]+)(\.ensures)? in(?=\s)", text):
+        if m.group(2) in alias and m.group(4) not in START:
+            q = fn.up(alias[m.group(2)], m.group(3).count(".before"))
+            if q is None or norm(fn.step[q][0]) != norm(m.group(4)):
+                q = fn.find(alias[m.group(2)], m.group(4))
+            if q is not None and fn.callee.get(q):
+                clause[m.group(1)] = fn.labels.get(fn.callee[q], ([], []))[1] if m.group(5) else ("step", fn.callee[q])
+
     def sub(m):
         base, ups, rest = m.group(1), m.group(2), m.group(3) or ""
+        if base in clause and not ups:
+            fields = rest.split(".")[1:] if rest else []
+            c = clause[base]
+            if isinstance(c, tuple):
+                if fields[:1] == ["ensures"]:
+                    fields = fields[:1] + by_nest(fields[1:], fn.labels.get(c[1], ([], []))[1])
+                elif fields[:1] == ["auto"] and len(fields) > 1 and fields[1].isdigit():
+                    k = 1
+                    while k < len(fields) and fields[k] == "1":
+                        k += 1
+                    refs = REFS.get(c[1], [])
+                    if k - 1 < len(refs):
+                        fields = ["auto", refs[k - 1]] + fields[k + 1 :]
+            else:
+                if not fields and len(c) > 1 and not text[: m.start()].rstrip().endswith("let"):
+                    todo.append("clauses as a whole: " + base)
+                fields = by_nest(fields, c)
+            return ".".join([base] + fields)
         if base not in alias:
             return m.group(0)
         p = fn.up(alias[base], ups.count(".before"))
@@ -180,10 +236,8 @@ def turn(text, fn, place, goal, todo, var="c"):
         f = fields[0]
         if f in START:
             out = [var, f] + fields[1:]
-            if f == "requires" and len(fields) > 1 and fields[1].isdigit():
-                ls = fn.labels.get(fn.fn, ([], []))[0]
-                if len(ls) > 1:
-                    out[2] = ls[int(fields[1])] if int(fields[1]) < len(ls) else fields[1]
+            if f == "requires":
+                out = [var, f] + by_nest(fields[1:], fn.labels.get(fn.fn, ([], []))[0])
             return ".".join(out)
         q = p if p is not None and norm(fn.step[p][0]) == norm(f) else None
         if q is None:
@@ -199,10 +253,16 @@ def turn(text, fn, place, goal, todo, var="c"):
             return ".".join([var, best[1], best[2]] + fields[1 + best[0] :])
         out = [var, fn.step[q][1] or f] + fields[1:]
         callee = fn.callee.get(q)
-        if callee and len(fields) > 2 and fields[1] in ("ensures", "requires") and fields[2].isdigit():
+        if callee and len(fields) > 1 and fields[1] in ("ensures", "requires"):
             ls = fn.labels.get(callee, ([], []))[1 if fields[1] == "ensures" else 0]
-            if len(ls) > 1 and int(fields[2]) < len(ls):
-                out[3] = ls[int(fields[2])]
+            out = out[:3] + by_nest(fields[2:], ls)
+        if callee and len(fields) > 2 and fields[1] == "auto" and fields[2].isdigit():
+            k = 2
+            while k < len(fields) and fields[k] == "1":
+                k += 1
+            refs = REFS.get(callee, [])
+            if k - 2 < len(refs):
+                out = out[:3] + [refs[k - 2]] + fields[k + 1 :]
         if fields[1:3] == ["given", "1"]:
             out = out[:2] + ["is"] + fields[3:]
         return ".".join(out)
@@ -250,10 +310,18 @@ def parts_of(e):
 
 def by_labels(body, ls):
     lets, last = split_let(body)
-    ps = parts_of(last)
-    if ps and len(ps) == len(ls):
+    ps, rest = [], last
+    while len(ps) < len(ls) - 1:
+        two = parts_of(rest)
+        if not two or len(two) != 2:
+            break
+        ps.append(two[0])
+        rest = two[1]
+    ps.append(rest)
+    if len(ps) == len(ls):
         return lets + (" " if lets else "") + "record { " + "; ".join(f"{l} = {p}" for l, p in zip(ls, ps)) + " }"
-    return f"{lets} let both = {last} in record {{ " + "; ".join(f"{l} = both.{i}" for i, l in enumerate(ls)) + " }"
+    nest = [".1" * i + (".0" if i < len(ls) - 1 else "") for i in range(len(ls))]
+    return f"{lets} let both = {last} in record {{ " + "; ".join(f"{l} = both{n}" for l, n in zip(ls, nest)) + " }"
 
 
 def keep_uses(uses, text):
@@ -384,6 +452,15 @@ def convert(crate, folder, x, fnname, labels, dropped, said):
             ans.append("\n".join(com + [s2] + unf + e2 + (["-- TODO " + "; ".join(t2)] if t2 else [])))
             if t2:
                 todo.append(name)
+            continue
+        m = re.search(r":\s*tie\.(\S+)([^\u2192]*)\u2192(?!\s*tie\.)", s)
+        if m and eqs and len(eqs) == 1 and fn.place(m.group(1)):
+            p = fn.place(m.group(1))
+            fn.used.add(fn.newplace[p])
+            l, _, r = eqs[0].partition("=")
+            t2 = []
+            e = l + "=" + turn(r, fn, p, None, t2, l.split()[1])
+            ans.append("\n".join(com + [s[: m.start()] + ": " + fn.newplace[p] + " \u2192" + s[m.end() :]] + unf + [e]))
             continue
         if "tie.close" in "\n".join(eqs) or re.search(r"statement", s):
             continue

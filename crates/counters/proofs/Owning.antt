@@ -62,9 +62,9 @@ start-rises s i m l =
     by_cases (ℕ_discrete i m) (λ e. rw e (omega arith)) (λ d. omega (arith, body-within s i m (omega arith)))
 
 -- the rules below r end at p or before, and the others after it
-owner_at : (s : List ℕ) (p r : ℕ) → Within s p r → owner_at s p ≡ r
+owner_at_lem : (s : List ℕ) (p r : ℕ) → Within s p r → owner_at s p ≡ r
 unfolding owner_at every_position
-owner_at s p r w =
+owner_at_lem s p r w =
     let g : Claims = λ i. leb (body_start s (i + 1)) p in
     let below = w.below in
     let from = w.from in
@@ -88,7 +88,7 @@ module _ (s : List ℕ) (good : WellFormed s) where
   unfolding owners
   owner_of {p} {r} w =
       get_d-span (owner_at s) 0 (literals s) p 0 (omega (arith, body-within s r (rules s) w.below, good.bodies, w.to))
-      ∙ ap (owner_at s) (zero-add p) ∙ owner_at s p r w
+      ∙ ap (owner_at s) (zero-add p) ∙ owner_at_lem s p r w
 
   pub owners-owned : Owned s (owners s)
   unfolding owners
