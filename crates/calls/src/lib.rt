@@ -25,21 +25,21 @@ use table::{questions, words};
 use turn::{Kind, single};
 
 // What a turn answers.
-#[derive(Drop)]
+#[derive(Clone, Copy)]
 pub enum TurnAnswer {
     Made(Kind),
     Refused { number: u32, place: usize },
 }
 
 // What a run answers: its check, and how many of its turns were of each kind.
-#[derive(Drop)]
+#[derive(Clone, Copy)]
 pub struct RunAnswer {
     pub check: job::Check,
     pub tally: [u64; 8],
 }
 
 // What reading a claim answers.
-#[derive(Drop)]
+#[derive(Clone, Copy)]
 pub enum ReadAnswer {
     Read(table::Reading),
     Refused { number: u32, place: usize },

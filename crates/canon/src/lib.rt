@@ -17,14 +17,14 @@ mod write;
 use job::Check;
 
 // What the call answers: the check, and how many bytes the form has (0 where the job is refused).
-#[derive(Drop)]
+#[derive(Clone, Copy)]
 pub struct CanonicalJob {
     pub check: Check,
     pub length: usize,
 }
 
 // Which of two things comes first.
-#[derive(Drop)]
+#[derive(Clone, Copy)]
 pub enum Comparison {
     Earlier,
     Equal,

@@ -17,7 +17,7 @@ pub fn room() -> [u8; ROOM]
 }
 
 // How many bytes were read, and whether no read failed.
-#[derive(Drop)]
+#[derive(Clone, Copy)]
 pub struct Input {
     pub length: usize,
     pub sound: bool,

@@ -8,28 +8,28 @@ pub mod claims;
 pub mod format;
 
 // What a check answers: accepted, or refused with a number of the check table and a place.
-#[derive(Drop)]
+#[derive(Clone, Copy)]
 pub enum Check {
     Accepted,
     Refused { number: u32, place: usize },
 }
 
 // A literal of a rule's body: a claim (a ground atom), or its default negation.
-#[derive(Drop)]
+#[derive(Clone, Copy)]
 pub enum Literal {
     Plain(usize),
     Negated(usize),
 }
 
 // A question: the worker that puts it, and the claim asked.
-#[derive(Drop)]
+#[derive(Clone, Copy)]
 pub struct Question {
     pub worker: usize,
     pub claim: usize,
 }
 
 // A cursor over one claim's literals: those from `at` up to `end`, counted among all the job's literals, are left.
-#[derive(Drop)]
+#[derive(Clone, Copy)]
 pub struct Cursor {
     pub at: usize,
     pub end: usize,

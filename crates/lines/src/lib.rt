@@ -17,14 +17,14 @@ mod write;
 use job::Check;
 
 // What the call answers: the check of the text, and how many bytes the job has (0 where it is refused).
-#[derive(Drop)]
+#[derive(Clone, Copy)]
 pub struct TypedJob {
     pub check: Check,
     pub length: usize,
 }
 
 // The numbers of a text, by what they stand for.
-#[derive(Drop)]
+#[derive(Clone, Copy)]
 pub enum Slot {
     ClaimCount,
     WorkerCount,
@@ -36,7 +36,7 @@ pub enum Slot {
 }
 
 // The fixed words between the numbers.
-#[derive(Drop)]
+#[derive(Clone, Copy)]
 pub enum Word {
     ClaimsWord,
     WorkersWord,
@@ -48,7 +48,7 @@ pub enum Word {
 }
 
 // Where in a line the reading of a text is.
-#[derive(Drop)]
+#[derive(Clone, Copy)]
 pub enum State {
     // Something doesn't fit.
     Bad,
@@ -67,14 +67,14 @@ pub enum State {
 }
 
 // What a byte ends: a number with its value, kept at 65,536 where it is past that.
-#[derive(Drop)]
+#[derive(Clone, Copy)]
 pub enum Event {
     Nothing,
     Number(Slot, usize),
 }
 
 // What the numbers read so far say.
-#[derive(Drop)]
+#[derive(Clone, Copy)]
 pub struct Tally {
     pub claims: usize,
     pub workers: usize,
@@ -84,7 +84,7 @@ pub struct Tally {
 }
 
 // The answer of row 15, and what was counted.
-#[derive(Drop)]
+#[derive(Clone, Copy)]
 pub struct Counted {
     pub check: Check,
     pub tally: Tally,

@@ -11,7 +11,7 @@ mod text;
 use job::Check;
 
 // What a listing answers: its check, and how many bytes the text has that it wrote; 0 where there was no room.
-#[derive(Drop)]
+#[derive(Clone, Copy)]
 pub struct Listed {
     pub check: Check,
     pub length: usize,

@@ -6,7 +6,7 @@ ghost use Rattle.makejob.specs.Pieces.{not_digit, first_at, number_from, digits_
 use lines::grammar;
 
 // A number's digits, from byte `start` to before byte `end`; none where these are equal.
-#[derive(Drop)]
+#[derive(Clone, Copy)]
 pub struct Digits {
     pub start: usize,
     pub end: usize,

@@ -6,7 +6,7 @@ ghost use Rattle.makejob.specs.Faults.{reach_of};
 use lines::{State, grammar};
 
 // What fits ends before byte `at`; whole where only the line feed is to come.
-#[derive(Drop)]
+#[derive(Clone, Copy)]
 pub struct Reach {
     pub at: usize,
     pub whole: bool,

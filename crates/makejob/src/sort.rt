@@ -6,7 +6,7 @@ use crate::line;
 use crate::shape::Reach;
 use lines::grammar;
 
-#[derive(Drop)]
+#[derive(Clone, Copy)]
 pub enum Sort {
     // No line at all; one without a byte; one that lacks only its line feed.
     Empty,

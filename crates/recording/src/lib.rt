@@ -21,7 +21,7 @@ use job::{Check, claims};
 use table::{questions, start};
 
 // How far a record was followed: how many pairs hold before the first false one, and the tally of their turns.
-#[derive(Drop)]
+#[derive(Clone, Copy)]
 pub struct Followed {
     pub held: usize,
     pub tally: [u64; 8],

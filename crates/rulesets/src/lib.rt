@@ -3,7 +3,7 @@
 #![tactic(auto)]
 
 // The five numbers of a size: how many sets make claim 0 true, false, undefined; the place of the first set that needs most changing turns, and those turns.
-#[derive(Drop)]
+#[derive(Clone, Copy)]
 pub struct Counts {
     pub trues: u64,
     pub falses: u64,
@@ -13,7 +13,7 @@ pub struct Counts {
 }
 
 // What the call answers.
-#[derive(Drop)]
+#[derive(Clone, Copy)]
 pub enum CensusAnswer {
     Counted(Counts),
     Refused { number: u32, place: usize },

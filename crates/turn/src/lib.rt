@@ -29,7 +29,7 @@ use job::{ClaimIndex, format};
 use table::{QuestionIndex, stores, words};
 
 // The kind of a turn.
-#[derive(Drop)]
+#[derive(Clone, Copy)]
 pub enum Kind {
     Idle,
     Woke,
@@ -43,7 +43,7 @@ pub enum Kind {
 
 // The set that a run keeps from turn to turn (kept_set.rt). `from`: the claim whose reached claims are kept + 1, or 0 where nothing is kept; `count`: how many they are. `next`: the claim that was to move on for
 // worker `worker` + 1, or 0 where none is known.
-#[derive(Drop)]
+#[derive(Clone, Copy)]
 pub struct Kept {
     pub from: usize,
     pub count: usize,
@@ -52,7 +52,7 @@ pub struct Kept {
 }
 
 // What a turn leaves besides the table: its kind, and what is kept.
-#[derive(Drop)]
+#[derive(Clone, Copy)]
 pub struct Taken {
     pub kind: Kind,
     pub kept: Kept,
