@@ -308,8 +308,11 @@ def parts_of(e):
     return out if len(out) > 1 else None
 
 
-def by_labels(body, ls):
+def by_labels(body, ls, own=()):
     lets, last = split_let(body)
+    m = re.fullmatch(r"(\w+)\.requires", last)
+    if m and len(own) == len(ls):
+        return lets + "record { " + "; ".join(f"{l} = {last}.{o}" for l, o in zip(ls, own)) + " }"
     ps, rest = [], last
     while len(ps) < len(ls) - 1:
         two = parts_of(rest)
@@ -422,7 +425,7 @@ def convert(crate, folder, x, fnname, labels, dropped, said):
             else:
                 ls = []
             if len(ls) > 1 and body.strip() not in EASY:
-                body = by_labels(body, ls)
+                body = by_labels(body, ls, labels.get(fnname, ([], []))[0])
             block = "\n".join(com + [f"pub {new} : goal.{new}"] + unf + [f"{new} {var} = {body}"] + (["-- TODO " + "; ".join(t2)] if t2 else []))
             if body.strip() in EASY and not unf and not com:
                 drop[new] = block

@@ -1,0 +1,5 @@
+use Rattle.model.proofs.rooms.evaluate_wide.Goals as goal
+
+pub evaluate_middle-requires : goal.evaluate_middle-requires
+evaluate_middle-requires c =     let start = c.requires in record { well_formed = start.well_formed; within = (c.fits2.ensures c.if-fits.true, start.job_in_bounds) }
+-- TODO step fits2
