@@ -197,7 +197,7 @@ def turn(text, fn, place, goal, todo, var="c"):
         if m.group(2) in alias and m.group(4) not in START:
             q = fn.up(alias[m.group(2)], m.group(3).count(".before"))
             if q is None or norm(fn.step[q][0]) != norm(m.group(4)):
-                q = fn.find(alias[m.group(2)], m.group(4))
+                q = fn.find(alias[m.group(2)], m.group(4)) or fn.find(place, m.group(4)) or fn.find(place, re.sub(r"\d+$", "", m.group(4)))
             if q is not None and fn.callee.get(q):
                 clause[m.group(1)] = fn.labels.get(fn.callee[q], ([], []))[1] if m.group(5) else ("step", fn.callee[q])
 
@@ -241,7 +241,7 @@ def turn(text, fn, place, goal, todo, var="c"):
             return ".".join(out)
         q = p if p is not None and norm(fn.step[p][0]) == norm(f) else None
         if q is None:
-            q = fn.find(p, f) or fn.find(place, f)
+            q = fn.find(p, f) or fn.find(place, f) or fn.find(place, re.sub(r"\d+$", "", f))
         if q is None:
             todo.append("step " + f)
             return ".".join([var] + fields)

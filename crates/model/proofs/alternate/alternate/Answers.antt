@@ -1,6 +1,6 @@
 use mathlib.Core.Path.{refl, ◌∙◌}
 use native.Mathlib.Omega.{arith}
-use Rattle.base.specs.Sets.{nothing}
+use Rattle.base.specs.Sets.{nothing, count}
 use Rattle.model.proofs.Shrinking.{risen-by}
 use Rattle.model.proofs.Alternating.{poised-next, poised-stops, poised_less}
 use Rattle.model.proofs.alternate.alternate.Goals as goal
@@ -36,7 +36,7 @@ shrink-top-requires c =     let l = c.loop-top in
 pub shape_of-need-then-top-eq0 : goal.shape_of-need-then-top-eq0
 shape_of-need-then-top-eq0 c =     let l = c.loop-top in
     let rise = c.rise-risen in
-    rise.auto.1.1.1.0 ∙ l.invariant.1
+    rise.auto.count ∙ l.invariant.1
 
 pub shape_of-fail-then-top-eq0 : goal.shape_of-fail-then-top-eq0
 shape_of-fail-then-top-eq0 c =     let l = c.loop-top in
@@ -48,7 +48,7 @@ pub shape_of-k-then-top-eq0 : goal.shape_of-k-then-top-eq0
 shape_of-k-then-top-eq0 c =     let l = c.loop-top in
     let k = c.first_k-top in
     let rise = c.rise-risen in
-    rise.auto.1.1.1.1.0 ∙ l.invariant.3 ∙ k.auto.k
+    rise.auto.w ∙ l.invariant.3 ∙ k.auto.k
 
 pub shape_of-u-then-top-eq0 : goal.shape_of-u-then-top-eq0
 shape_of-u-then-top-eq0 c =     let l = c.loop-top in
@@ -62,7 +62,7 @@ shape_of-queue-then-top-eq0 c =     let l = c.loop-top in
     let u = c.first_u in
     let shrink = c.shrink-top in
     let rise = c.rise-risen in
-    shrink.auto.queue ∙ rise.auto.1.1.1.1.1.0 ∙ l.invariant.5 ∙ k.auto.queue ∙ u.auto.queue
+    shrink.auto.queue ∙ rise.auto.queue ∙ l.invariant.5 ∙ k.auto.queue ∙ u.auto.queue
 
 pub shape_of-list-then-top-eq0 : goal.shape_of-list-then-top-eq0
 shape_of-list-then-top-eq0 c =     let l = c.loop-top in
@@ -89,10 +89,10 @@ loop-top-preserved c =     let l = c.loop-top in
     let shrink = c.shrink-top in
     let rise = c.rise-risen in (
       (_, poised-next _ _ start.well_formed _ _ _ _ _ _ l.invariant.0.1 _ _ _ _ rise.ensures _ _ _ _ (shrink.ensures l.invariant.0.0 (risen-by _ _ start.well_formed _ _ _ _ _ _ l.invariant.0.1 _ _ _ _ rise.ensures))),
-      rise.auto.1.1.1.0 ∙ l.invariant.1,
+      rise.auto.count ∙ l.invariant.1,
       shrink.auto.fail ∙ l.invariant.2,
-      rise.auto.1.1.1.1.0 ∙ l.invariant.3,
+      rise.auto.w ∙ l.invariant.3,
       shrink.auto.u ∙ l.invariant.4,
-      shrink.auto.queue ∙ rise.auto.1.1.1.1.1.0 ∙ l.invariant.5,
+      shrink.auto.queue ∙ rise.auto.queue ∙ l.invariant.5,
       shrink.auto.list ∙ l.invariant.6,
     )

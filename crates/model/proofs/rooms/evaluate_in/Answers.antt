@@ -58,5 +58,5 @@ shape_of-out c = c.write.auto.out
 
 pub returns : goal.returns
 returns c =     let a = c.alternate in
-    written-verdicts c.args.job.now _ _ c.args.out.now (a.auto.1.1.1.1.1.1.0 ∙ c.requires.unused.size_k) a.ensures.0 a.ensures.1
+    written-verdicts c.args.job.now _ _ c.args.out.now (a.auto.k ∙ c.requires.unused.size_k) a.ensures.k_after a.ensures.u_after
     c.write.ensures
