@@ -36,7 +36,7 @@ def by_nest(fields, ls):
 
 
 def norm(s):
-    return s.replace("_", "-")
+    return s.replace("_", "-").lower()
 
 
 def labels_of(root):
@@ -201,21 +201,42 @@ def turn(text, fn, place, goal, todo, var="c"):
             if q is not None and fn.callee.get(q):
                 clause[m.group(1)] = fn.labels.get(fn.callee[q], ([], []))[1] if m.group(5) else ("step", fn.callee[q])
 
+    # and for what is left of a contract's clauses
+    tail = {}
+    for m in re.finditer(r"let (" + ID + r") = (" + ID + r")((?:\.before)*)((?:\.requires)?)((?:\.1)+) in(?=\s)\s*", text):
+        n, base, k = m.group(1), m.group(2), m.group(5).count(".1")
+        if base in alias and m.group(4):
+            ls, by = fn.labels.get(fn.fn, ([], []))[0], var + ".requires"
+        elif isinstance(clause.get(base), list) and not m.group(3) and not m.group(4):
+            ls, by = clause[base], base
+        else:
+            continue
+        if k < len(ls) - 1:
+            tail[n] = (by, ls[k:])
+        elif k == len(ls) - 1:
+            tail[n] = (by + "." + ls[k], None)
+    for n in tail:
+        text = re.sub(r"let " + re.escape(n) + r" = [^\n]*?(?:\.1)+ in\s*", "", text, count=1)
+
     def sub(m):
         base, ups, rest = m.group(1), m.group(2), m.group(3) or ""
+        if base in tail and not ups:
+            fields = rest.split(".")[1:] if rest else []
+            by, ls = tail[base]
+            return ".".join([by] + (by_nest(fields, ls) if ls else fields))
         if base in clause and not ups:
             fields = rest.split(".")[1:] if rest else []
             c = clause[base]
             if isinstance(c, tuple):
                 if fields[:1] == ["ensures"]:
                     fields = fields[:1] + by_nest(fields[1:], fn.labels.get(c[1], ([], []))[1])
-                elif fields[:1] == ["auto"] and len(fields) > 1 and fields[1].isdigit():
+                elif fields[:1] in (["auto"], ["new"]) and len(fields) > 1 and fields[1].isdigit():
                     k = 1
                     while k < len(fields) and fields[k] == "1":
                         k += 1
                     refs = REFS.get(c[1], [])
                     if k - 1 < len(refs):
-                        fields = ["auto", refs[k - 1]] + fields[k + 1 :]
+                        fields = [fields[0], refs[k - 1]] + fields[k + 1 :]
             else:
                 if not fields and len(c) > 1 and not text[: m.start()].rstrip().endswith("let"):
                     todo.append("clauses as a whole: " + base)
@@ -226,6 +247,9 @@ def turn(text, fn, place, goal, todo, var="c"):
         p = fn.up(alias[base], ups.count(".before"))
         fields = rest.split(".")[1:] if rest else []
         if not fields:
+            before = re.search(r"([^\s(){},;]+)[\s(]*$", text[: m.start()])
+            if before and before.group(1) in fn.helpers:
+                p = fn.helpers[before.group(1)]
             if p is None:
                 todo.append("path")
                 return m.group(0)
@@ -256,7 +280,7 @@ def turn(text, fn, place, goal, todo, var="c"):
         if callee and len(fields) > 1 and fields[1] in ("ensures", "requires"):
             ls = fn.labels.get(callee, ([], []))[1 if fields[1] == "ensures" else 0]
             out = out[:3] + by_nest(fields[2:], ls)
-        if callee and len(fields) > 2 and fields[1] == "auto" and fields[2].isdigit():
+        if callee and len(fields) > 2 and fields[1] in ("auto", "new") and fields[2].isdigit():
             k = 2
             while k < len(fields) and fields[k] == "1":
                 k += 1
@@ -268,7 +292,8 @@ def turn(text, fn, place, goal, todo, var="c"):
         return ".".join(out)
 
     body = re.compile(r"(?<![\w.'-])(" + ID + r")((?:\.before)*)((?:\.(?!before\b)" + r"[A-Za-z0-9_\u2080-\u2089'+-]+)*)")
-    return body.sub(sub, text)
+    text = body.sub(sub, text)
+    return re.sub(r"not-(?:true|false) _ (" + ID + r"\.[\w-]+\.(?:true|false))", r"\1", text)
 
 
 def split_let(body):
@@ -369,6 +394,11 @@ def convert(crate, folder, x, fnname, labels, dropped, said):
     loops = {norm(l[0][0]): (l[0][1], l[1]) for l in x["loops"]}
     changed = {norm(l[0][0]): ch for l, ch in zip(x["loops"], x["changed"])}
     drop = {}
+    fn.helpers = {}
+    for com, sig, unf, eqs, name in decls:
+        m = re.search(r"\(\s*\S+\s*:\s*tie\.(\S+?)(?:[\s)])", "\n".join(sig)) if name else None
+        if m and fn.place(m.group(1)):
+            fn.helpers[name] = fn.place(m.group(1))
     for com, sig, unf, eqs, name in decls:
         s = "\n".join(sig)
         if name is None:
@@ -396,7 +426,7 @@ def convert(crate, folder, x, fnname, labels, dropped, said):
                     b = p.rstrip("'₀")
                     rep[p] = ("l.initial." if "₀" in p else "l.") + b
             rep = {p: r for p, r in rep.items() if p != "_"}
-            body = re.sub(r"(?<![\w.'-])(" + ID + r")", lambda q: rep.get(q.group(1), q.group(1)), body)
+            body = re.sub(r"(?<![\w.'-])(" + ID + r")", lambda q: q.group(1) if re.match(r"\s=\s", body[q.end() :]) else rep.get(q.group(1), q.group(1)), body)
             inv.append("\n".join(com + [f"abbrev pub {m.group(1)}-{newl} : goal.{m.group(1)}-{newl}"] + unf + [f"{m.group(1)}-{newl} l = {body}"]))
             continue
         m = re.search(r":\s*tie\.Need-(\S+)", s)
@@ -407,12 +437,13 @@ def convert(crate, folder, x, fnname, labels, dropped, said):
                 drop.setdefault("gone", []).append(m.group(1))
                 continue
             new, at, atnew = got
-            mm = re.match(re.escape(name) + r"\s+(\S+)(?:\s+\S+)?\s*=\s(.*)$", eqs[0], re.S)
+            mm = re.match(re.escape(name) + r"\s+(\S+)((?:\s+[^\s=]+)*)\s*=\s(.*)$", eqs[0], re.S)
             if not mm or len(eqs) > 1:
                 todo.append("shape of " + name)
                 ans.append("\n".join(com + [s] + unf + eqs))
                 continue
-            var, body = mm.group(1), mm.group(2)
+            var, more, body = mm.group(1), mm.group(2).split(), mm.group(3)
+            more = "".join(" " + m for m in more if m not in ("\u03bas", "_"))
             t2 = []
             body = turn(body, fn, at, new, t2, var) if var != "_" else body
             if key.startswith("returns"):
@@ -426,7 +457,7 @@ def convert(crate, folder, x, fnname, labels, dropped, said):
                 ls = []
             if len(ls) > 1 and body.strip() not in EASY:
                 body = by_labels(body, ls, labels.get(fnname, ([], []))[0])
-            block = "\n".join(com + [f"pub {new} : goal.{new}"] + unf + [f"{new} {var} = {body}"] + (["-- TODO " + "; ".join(t2)] if t2 else []))
+            block = "\n".join(com + [f"pub {new} : goal.{new}"] + unf + [f"{new} {var}{more} = {body}"] + (["-- TODO " + "; ".join(t2)] if t2 else []))
             if body.strip() in EASY and not unf and not com:
                 drop[new] = block
             else:
