@@ -432,7 +432,7 @@ def convert(crate, folder, x, fnname, labels, dropped, said):
         m = re.search(r":\s*tie\.Need-(\S+)", s)
         if m and len(eqs) >= 1:
             key = norm(m.group(1))
-            got = fn.needs.get(key) or fn.needs.get(key.removeprefix("overflow-"))
+            got = fn.needs.get(key) or fn.needs.get(key.removeprefix("overflow-")) or fn.needs.get(re.sub(r"^slice-bounds-", "part-", key))
             if not got:
                 drop.setdefault("gone", []).append(m.group(1))
                 continue
@@ -443,7 +443,7 @@ def convert(crate, folder, x, fnname, labels, dropped, said):
                 ans.append("\n".join(com + [s] + unf + eqs))
                 continue
             var, more, body = mm.group(1), mm.group(2).split(), mm.group(3)
-            more = "".join(" " + m for m in more if m not in ("\u03bas", "_"))
+            more = "".join(" " + m for m in more if m != "\u03bas" and not (m == "_" and "-requires" in key))
             t2 = []
             body = turn(body, fn, at, new, t2, var) if var != "_" else body
             if key.startswith("returns"):
