@@ -1,6 +1,5 @@
 pub mod Merged
 pub mod Compared
-pub mod Tags
 pub mod MergeLoop
 pub mod Rising
 pub mod SortedParts
