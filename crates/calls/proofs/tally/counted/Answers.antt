@@ -8,4 +8,4 @@ pub overflow_add-next : goal.overflow_add-next
 overflow_add-next c = omega (arith, c.requires c.kind_number-at.result)
 
 pub returns : goal.returns
-returns c = ap (λ (k : ℕ). set c.args.t1 k (get_or c.args.t1 k 0 + 1)) c.kind_number-at.ensures.0
+returns c = ap (λ (k : ℕ). set c.args.counts k (get_or c.args.counts k 0 + 1)) c.kind_number-at.ensures.0
