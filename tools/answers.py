@@ -106,7 +106,7 @@ def blocks(text):
     while k < len(out):
         c, b = out[k]
         first = b[0]
-        if re.match(r"^(infix\w*|module|record|pub record|data|pub data)\b", first):
+        if re.match(r"^(infix\w*|module|record|pub record|data|pub data)\s", first):
             decls.append([c, b, [], [], None])
             k += 1
             continue
@@ -366,6 +366,10 @@ def keep_uses(uses, text):
         for it in [s.strip() for s in m.group(2).split(",") if s.strip()]:
             n = it.split()[-1]
             ps = [p for p in n.split("◌") if p]
+            if n == "[]":
+                if "[]" in text:
+                    items.append(it)
+                continue
             if all(p in toks or p in text for p in ps) and (ps and ("◌" in n or n in toks)):
                 items.append(it)
         if items:
