@@ -1,0 +1,12 @@
+use Prim.Native.Nat.{ℕ}
+use mathlib.Core.List.{List}
+use mathlib.Core.Path.{◌∙◌, ap}
+use Rattle.job.specs.declared.Check.{Check}
+use Rattle.codes.specs.Numbers.{of_written}
+use Rattle.records.specs.Answers.{replay_check}
+use Rattle.table_calls.specs.Numbers.{copied}
+use Rattle.table_calls.proofs.table_replay.Goals as goal
+
+pub returns : goal.returns
+unfolding replay_check
+returns c =     let m = c.replay-answer.ensures.replayed in record { value = c.of_written.ensures ∙ ap (λ (k : Check). of_written k 0) m.check_is; table_after = m.table_is; tally_after = c.copy_counts.ensures ∙ ap (λ (ns : List ℕ). copied ns c.args.tally.now) m.tally_is }
