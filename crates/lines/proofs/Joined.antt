@@ -2,7 +2,7 @@
 --   order-taken     the order's front is the places of the rules
 --   header-room, records-room, bodies-room, asks-room   each part has room behind those before it
 --   joined          header, records, literals and questions together are the job's bytes
-use Prim.Native.Nat.{ℕ, ◌+◌, ◌*◌, ◌-◌, ◌≤◌}
+use Prim.Native.Nat.{ℕ, ◌+◌, ◌*◌, ◌≤◌}
 use mathlib.Core.Path.{◌≡◌, refl, sym, ◌∙◌, ap}
 use mathlib.Core.List.{List, ◌++◌, flat_map}
 use native.Mathlib.Omega.{arith}

@@ -122,13 +122,13 @@ num-some : (sl : Slot) (n : ℕ) → 1 ≤ n → num sl n ≡ More sl
 num-some sl zero h = absurd (omega arith)
 num-some sl (suc n) h = refl
 
-is_digit : (d : ℕ) → d < 10 → is_digit (48 + d) ≡ true
+is_digit_lem : (d : ℕ) → d < 10 → is_digit (48 + d) ≡ true
 unfolding is_digit
-is_digit d h = pick-false _ _ _ (under-no _ _ (omega arith)) ∙ under-yes _ _ (omega arith)
+is_digit_lem d h = pick-false _ _ _ (under-no _ _ (omega arith)) ∙ under-yes _ _ (omega arith)
 
 digit_more : (keep : ℕ → ℕ) (n d : ℕ) → d < 10 → digit_by keep n (48 + d) ≡ keep (10 * n + d)
 unfolding digit_by
-digit_more keep n d h = let v : 10 * n + (48 + d - 48) ≡ 10 * n + d = omega arith in pick_true _ _ _ (is_digit d h) ∙ ap keep v
+digit_more keep n d h = let v : 10 * n + (48 + d - 48) ≡ 10 * n + d = omega arith in pick_true _ _ _ (is_digit_lem d h) ∙ ap keep v
 
 -- where a number may start
 pub record Begins (st : State) (sl : Slot) : Type 0 where
@@ -155,15 +155,15 @@ unfolding first pick
 first_num st sl h zero l = h.step_first 48 (omega arith)
 first_num st sl h (suc d) l =
     let b : ℕ = 48 + suc d in
-    h.step_first b (omega arith) ∙ pick-false _ _ _ (ne_eqb b 48 (λ q. omega arith)) ∙ pick_true _ _ _ (is_digit (suc d) l)
+    h.step_first b (omega arith) ∙ pick-false _ _ _ (ne_eqb b 48 (λ q. omega arith)) ∙ pick_true _ _ _ (is_digit_lem (suc d) l)
 
 more_num : (sl : Slot) (d : ℕ) → d < 10 → step (More sl) (48 + d) ≡ More sl
 unfolding more
-more_num sl d l = pick_true _ _ _ (is_digit d l)
+more_num sl d l = pick_true _ _ _ (is_digit_lem d l)
 
 more_silent : (sl : Slot) (n d : ℕ) → d < 10 → event_in (More sl) n (48 + d) ≡ Nothing
 unfolding unless_digit
-more_silent sl n d l = pick_true _ _ _ (is_digit d l)
+more_silent sl n d l = pick_true _ _ _ (is_digit_lem d l)
 
 module _
     {keep : ℕ → ℕ} (adds : (q r : ℕ) → keep (10 * keep q + r) ≡ keep (10 * q + r)) (st : State) (sl : Slot) (h : Begins st sl)

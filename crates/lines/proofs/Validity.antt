@@ -89,10 +89,10 @@ record Stands {A : Type 0} (d : A) (xs : List A) (x : A) : Type 0 where
   low : at < length xs
   here : get_or xs at d ≡ x
 
-mem-stands : {A : Type 0} (d : A) (xs : List A) (x : A) → x ∈ xs → Stands d xs x
-mem-stands d xs x (Memᴰ.head e) = record { at = 0; low = omega arith; here = sym e }
-mem-stands d xs x (Memᴰ.tail {xs = ys} m) =
-    let s = mem-stands d ys x m in
+mem-stands : {A : Type 0} (d x : A) (xs : List A) → x ∈ xs → Stands d xs x
+mem-stands d x xs (Memᴰ.head e) = record { at = 0; low = omega arith; here = sym e }
+mem-stands d x xs (Memᴰ.tail {xs = ys} m) =
+    let s = mem-stands d x ys m in
     record { at = suc s.at; low = omega arith; here = s.here }
 
 below_of : (a : ℕ) (d : Rule) (rs : List Rule) → ((i : ℕ) → i < length rs → (get_or rs i d).head < a) → Below a rs
@@ -137,13 +137,13 @@ module _ (l : Lines) (f : LinesFit l) where
 
   pub rule_of : (r : Rule) → r ∈ typed l → (r.head < l.claims) × (some_not_below l.claims r.body ≡ false)
   rule_of r m =
-      let s = mem-stands (0 if []) (typed l) r m in
+      let s = mem-stands (0 if []) r (typed l) m in
       let g = fits_at s.at s.low in
       (rw s.here at g.head, rw s.here at g.literals)
 
   pub ask_of : (q : Question) → q ∈ l.questions → (q.worker < l.workers) × (q.claim < l.claims)
   ask_of q m =
-      let s = mem-stands (record { worker = 0; claim = 0 }) l.questions q m in
+      let s = mem-stands (record { worker = 0; claim = 0 }) q l.questions m in
       let g = f.ask s.at s.low in
       (rw s.here at g.asker, rw s.here at g.asked)
 
