@@ -436,7 +436,7 @@ def convert(crate, folder, x, fnname, labels, dropped, said):
         m = re.search(r":\s*tie\.Need-(\S+)", s)
         if m and len(eqs) >= 1:
             key = norm(m.group(1))
-            got = fn.needs.get(key) or fn.needs.get(key.removeprefix("overflow-")) or fn.needs.get(re.sub(r"^slice-bounds-", "part-", key))
+            got = fn.needs.get(key) or fn.needs.get(key.removeprefix("overflow-").removeprefix("nonzero-")) or fn.needs.get(re.sub(r"^slice-bounds-", "part-", key))
             if not got:
                 drop.setdefault("gone", []).append(m.group(1))
                 continue
