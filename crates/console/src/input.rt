@@ -1,8 +1,8 @@
-// Standard input, read to its end. io's `read_full` doesn't tell an end from a read that failed.
+// Standard input, read to its end. std's `read_to_end` allocates, and its `read_exact` doesn't tell an end from a read that failed.
 ghost use Rattle.std.specs.Prelude.{◌≡◌, ◌≤◌, length};
-ghost use Rattle.io.specs.Counts.{IsPrefixLen};
+ghost use Rattle.console.specs.Counts.{IsPrefixLen};
 
-use libc::STDIN_FILENO;
+use std::io::Read;
 
 // The most bytes that a text, or a job with its record, may have.
 pub const MOST_BYTES: usize = 1048576;
@@ -23,23 +23,28 @@ pub struct Input {
     pub sound: bool,
 }
 
-fn read_once(part: &mut [u8]) -> Input
+fn read_once<R: Read>(reader: &mut R, part: &mut [u8]) -> Input
     ensures { result.length ≤ length part.new }
 {
-    let got = libc::read(STDIN_FILENO, part);
-    Input {
-        length: io::count(got, part),
-        sound: 0 <= got,
+    match reader.read(part) {
+        Ok(length) => Input {
+            length,
+            sound: true,
+        },
+        Err(_) => Input {
+            length: 0,
+            sound: false,
+        },
     }
 }
 
 // Reads up to the input's end, or the buffer's, or a read that fails.
-pub fn read_input(buf: &mut [u8]) -> Input
+pub fn read_input<R: Read>(reader: &mut R, buf: &mut [u8]) -> Input
     ensures { IsPrefixLen result.length buf.new }
 {
     let mut done: usize = 0;
     while done < buf.len() {
-        let more = read_once(&mut buf[done..]);
+        let more = read_once(reader, &mut buf[done..]);
         let count = more.length;
         if count == 0 {
             return Input {
