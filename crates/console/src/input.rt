@@ -1,5 +1,6 @@
 // Standard input, read to its end. std's `read_to_end` allocates, and its `read_exact` doesn't tell an end from a read that failed.
-ghost use Rattle.std.specs.Prelude.{◌≡◌, ◌≤◌, length};
+ghost use Rattle.std.specs.Prelude.{◌≡◌, ◌<◌, ◌≤◌, length, take, IsTrue};
+ghost use Rattle.std.specs.Io.KnownBytes.{Consumes, IsAtEnd};
 ghost use Rattle.console.specs.Counts.{IsPrefixLen};
 
 use std::io::Read;
@@ -24,7 +25,9 @@ pub struct Input {
 }
 
 fn read_once<R: Read>(reader: &mut R, part: &mut [u8]) -> Input
-    ensures { result.length ≤ length part.new }
+    ensures length_in_bounds { result.length ≤ length part.new }
+    ensures bytes { Consumes (R.remaining reader.old) (R.remaining reader.new) (take result.length part.new) }
+    ensures end { IsTrue result.sound → result.length ≡ 0 → 0 < length part.new → IsAtEnd (R.remaining reader.new) }
 {
     match reader.read(part) {
         Ok(length) => Input {
@@ -38,9 +41,12 @@ fn read_once<R: Read>(reader: &mut R, part: &mut [u8]) -> Input
     }
 }
 
-// Reads up to the input's end, or the buffer's, or a read that fails.
+// Reads up to the input's end, or the buffer's, or a read that fails. Where the reader's bytes are known, those at the start of the
+// buffer are they in order, also before a read that fails, and none is left where no read failed and the buffer is not full.
 pub fn read_input<R: Read>(reader: &mut R, buf: &mut [u8]) -> Input
-    ensures { IsPrefixLen result.length buf.new }
+    ensures prefix_len { IsPrefixLen result.length buf.new }
+    ensures bytes { Consumes (R.remaining reader.old) (R.remaining reader.new) (take result.length buf.new) }
+    ensures end { IsTrue result.sound → result.length < length buf.new → IsAtEnd (R.remaining reader.new) }
 {
     let mut done: usize = 0;
     while done < buf.len() {
