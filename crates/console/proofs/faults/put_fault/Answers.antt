@@ -1,6 +1,7 @@
--- : each arm puts the words of its check.
+-- `console::faults::put_fault` meets its contract: each arm puts the words of its check.
 use mathlib.Core.Path.{ap}
 use native.Mathlib.Omega.{arith}
+use borrow.Author.Rules.{rules}
 use Rattle.base.specs.Choose.{pick}
 use Rattle.console.specs.Faults.{most_fault, fault_words}
 use Rattle.console.proofs.Words.{said, others}
@@ -35,5 +36,6 @@ unfolding fault_words pick
 returns-in-7 c = let both = said (fault_words c.args.number) most_fault (ap fault_words c.in-7.is) (omega arith) c.requires c.put_bytes-in-7.ensures in record { put = both.0; prefix_len = both.1 }
 
 pub returns-in_default : goal.returns-in_default
-returns-in_default c = let n = c.in_default.in_default-own.rest in let both = said (fault_words c.args.number) most_fault (others _ n.0.0.0.0.0.0.1 n.0.0.0.0.0.1 n.0.0.0.0.1 n.0.0.0.1 n.0.0.1 n.0.1 n.1) (omega arith) c.requires
-    c.put_bytes-in_default.ensures in record { put = both.0; prefix_len = both.1 }
+returns-in_default c =
+    let both = said (fault_words c.args.number) most_fault (others _ (search rules) (search rules) (search rules) (search rules) (search rules) (search rules) (search rules)) (omega arith) c.requires c.put_bytes-in_default.ensures in
+    record { put = both.0; prefix_len = both.1 }

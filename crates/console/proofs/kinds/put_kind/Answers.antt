@@ -1,6 +1,7 @@
--- : each arm puts the word of its kind.
+-- `console::kinds::put_kind` meets its contract: each arm puts the word of its kind.
 use mathlib.Core.Path.{ap}
 use native.Mathlib.Omega.{arith}
+use borrow.Author.Rules.{rules}
 use Rattle.base.specs.Choose.{pick}
 use Rattle.console.specs.Kinds.{most_kind, kind_word}
 use Rattle.console.proofs.Words.{said, others-kind}
@@ -39,5 +40,6 @@ unfolding kind_word pick
 returns-in-7 c = let both = said (kind_word c.args.number) most_kind (ap kind_word c.in-7.is) (omega arith) c.requires c.put_bytes-in-7.ensures in record { put = both.0; prefix_len = both.1 }
 
 pub returns-in_default : goal.returns-in_default
-returns-in_default c = let n = c.in_default.in_default-own.rest in let both = said (kind_word c.args.number) most_kind (others-kind _ n.0.0.0.0.0.0.0.1 n.0.0.0.0.0.0.1 n.0.0.0.0.0.1 n.0.0.0.0.1 n.0.0.0.1 n.0.0.1 n.0.1 n.1) (omega arith) c.requires
-    c.put_bytes-in_default.ensures in record { put = both.0; prefix_len = both.1 }
+returns-in_default c =
+    let both = said (kind_word c.args.number) most_kind (others-kind _ (search rules) (search rules) (search rules) (search rules) (search rules) (search rules) (search rules) (search rules)) (omega arith) c.requires c.put_bytes-in_default.ensures in
+    record { put = both.0; prefix_len = both.1 }
