@@ -7,61 +7,74 @@
 use canon::canonical::canonical;
 use console::{faults, input};
 use job::{Check, checks};
-use libc::{STDERR_FILENO, STDOUT_FILENO};
+use std::io::{Stderr, Stdout};
 
 // One byte more than a job may have, so that a longer input shows.
 const ROOM: usize = checks::MOST_BYTES + 1;
 
-fn say(words: &[u8]) {
-    io::write_all(STDERR_FILENO, words);
+// What standard error doesn't take is let go: there is nowhere else to say it.
+fn say(err: Stderr, words: &[u8]) {
+    let _ = err.write_all(words);
+}
+
+fn say_number(err: Stderr, number: usize) {
+    let _ = err.print(number);
 }
 
 // What check `number` found wrong, up to the place. 19 can't come, since the output has room for the largest job.
-fn say_fault(number: u32, place: usize) {
+fn say_fault(err: Stderr, number: u32, place: usize) {
     if checks::MOST_BYTES < place {
-        say(b"the input has over 61,476 bytes; bytes read: ");
+        say(err, b"the input has over 61,476 bytes; bytes read: ");
         return;
     }
     let mut words = [0u8; faults::MOST_FAULT];
     let n = faults::put_fault(&mut words, number);
-    say(&words[..n]);
+    say(err, &words[..n]);
 }
 
 // One line on standard error.
-fn say_refusal(number: u32, place: usize) {
-    say(b"canonjob: refused by check ");
-    io::print_decimal(STDERR_FILENO, number as u64);
-    say(b": ");
-    say_fault(number, place);
-    io::print_decimal(STDERR_FILENO, place as u64);
-    say(b"\n");
+fn say_refusal(err: Stderr, number: u32, place: usize) {
+    say(err, b"canonjob: refused by check ");
+    say_number(err, number as usize);
+    say(err, b": ");
+    say_fault(err, number, place);
+    say_number(err, place);
+    say(err, b"\n");
 }
 
-fn write_form(form: &[u8]) {
-    if io::write_all(STDOUT_FILENO, form) {
+fn write_form(out: Stdout, err: Stderr, form: &[u8]) {
+    if out.write_all(form).is_ok() {
         return;
     }
-    say(b"canonjob: the form can't be written to standard output; is the disk full?\n");
+    say(
+        err,
+        b"canonjob: the form can't be written to standard output; is the disk full?\n",
+    );
 }
 
-fn form(job: &[u8], out: &mut [u8]) {
-    let made = canonical(job, out);
+fn form(out: Stdout, err: Stderr, job: &[u8], form: &mut [u8]) {
+    let made = canonical(job, form);
     let check = made.check;
     let length = made.length;
     match check {
-        Check::Accepted => write_form(&out[..length]),
-        Check::Refused { number, place } => say_refusal(number, place),
+        Check::Accepted => write_form(out, err, &form[..length]),
+        Check::Refused { number, place } => say_refusal(err, number, place),
     }
 }
 
-fn main() {
+fn main(rt: HostRuntime) {
+    let err = rt.stderr();
+    let mut stdin = rt.stdin();
     let mut job = [0u8; ROOM];
     let mut out = [0u8; checks::MOST_BYTES];
-    let read = input::read_input(&mut job);
+    let read = input::read_input(&mut stdin, &mut job);
     let length = read.length;
     if !read.sound {
-        say(b"canonjob: standard input can't be read; give a job, as in `canonjob < my.job`\n");
+        say(
+            err,
+            b"canonjob: standard input can't be read; give a job, as in `canonjob < my.job`\n",
+        );
         return;
     }
-    form(&job[..length], &mut out);
+    form(rt.stdout(), err, &job[..length], &mut out);
 }

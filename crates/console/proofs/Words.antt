@@ -8,7 +8,7 @@ use native.Mathlib.Omega.{arith}
 use borrow.Author.Tests.{ne_eqb}
 use lib.ListN.{length}
 use lib.Seq.{length-take-le}
-use Rattle.io.specs.Counts.{IsPrefixLen}
+use Rattle.console.specs.Counts.{IsPrefixLen}
 use Rattle.base.proofs.Choose.{pick-false}
 use Rattle.writing.specs.Written.{Put}
 use Rattle.writing.proofs.Wrote.{put_as, put_size}

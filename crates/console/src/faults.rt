@@ -1,6 +1,6 @@
 // What checks 1 to 8 found wrong with a job, in words. The contract cites specs/Faults.
 ghost use Rattle.std.specs.Prelude.{◌≤◌, length};
-ghost use Rattle.io.specs.Counts.{IsPrefixLen};
+ghost use Rattle.console.specs.Counts.{IsPrefixLen};
 ghost use Rattle.writing.specs.Written.{Put};
 ghost use Rattle.console.specs.Faults.{fault_words, most_fault};
 

@@ -1,6 +1,6 @@
 // The kind of a turn, in a word. The contract cites specs/Kinds.
 ghost use Rattle.std.specs.Prelude.{◌≤◌, length};
-ghost use Rattle.io.specs.Counts.{IsPrefixLen};
+ghost use Rattle.console.specs.Counts.{IsPrefixLen};
 ghost use Rattle.writing.specs.Written.{Put};
 ghost use Rattle.console.specs.Kinds.{kind_word, most_kind};
 

@@ -3,92 +3,93 @@
 use crate::said::say;
 use crate::{digits, line, said};
 use job::checks;
+use std::io::Stderr;
 
-fn say_most(count: &[u8]) {
-    say(b"with this line there are more than ");
-    say(count);
-    say(b", the most that a job has; split the field");
+fn say_most(err: Stderr, count: &[u8]) {
+    say(err, b"with this line there are more than ");
+    say(err, count);
+    say(err, b", the most that a job has; split the field");
 }
 
-fn say_workers(number: &[u8]) {
-    say(b"the count of workers, ");
-    said::say_part(number);
-    say(b", is not from 1 to 32, as in `claims 12 workers 3`");
+fn say_workers(err: Stderr, number: &[u8]) {
+    say(err, b"the count of workers, ");
+    said::say_part(err, number);
+    say(err, b", is not from 1 to 32, as in `claims 12 workers 3`");
 }
 
 // A claim, or a worker, that is not below its count.
-fn say_not_below(thing: &[u8], number: &[u8], count: usize) {
-    say(thing);
-    say(b" ");
-    said::say_part(number);
-    say(b" is not below ");
-    said::say_number(count);
-    say(b", the count of ");
-    say(thing);
-    say(b"s in line 1; ");
-    say(thing);
-    say(b"s are numbered from 0");
+fn say_not_below(err: Stderr, thing: &[u8], number: &[u8], count: usize) {
+    say(err, thing);
+    say(err, b" ");
+    said::say_part(err, number);
+    say(err, b" is not below ");
+    said::say_number(err, count);
+    say(err, b", the count of ");
+    say(err, thing);
+    say(err, b"s in line 1; ");
+    say(err, thing);
+    say(err, b"s are numbered from 0");
 }
 
 // Of line 1: claims over their limit, or else workers.
-fn say_first(line: &[u8]) {
+fn say_first(err: Stderr, line: &[u8]) {
     let claims = digits::next(line, 0);
     if checks::MOST_CLAIMS < digits::value(line, claims) {
-        say_most(b"4,096 claims");
+        say_most(err, b"4,096 claims");
         return;
     }
     let workers = digits::next(line, claims.end);
-    say_workers(digits::bytes_of(line, workers));
+    say_workers(err, digits::bytes_of(line, workers));
 }
 
 // The worker, or else the claim, or else the count of questions.
-fn say_question(line: &[u8], claims: usize, workers: usize) {
+fn say_question(err: Stderr, line: &[u8], claims: usize, workers: usize) {
     let worker = digits::next(line, 0);
     if workers <= digits::value(line, worker) {
-        say_not_below(b"worker", digits::bytes_of(line, worker), workers);
+        say_not_below(err, b"worker", digits::bytes_of(line, worker), workers);
         return;
     }
     let claim = digits::next(line, worker.end);
     if claims <= digits::value(line, claim) {
-        say_not_below(b"claim", digits::bytes_of(line, claim), claims);
+        say_not_below(err, b"claim", digits::bytes_of(line, claim), claims);
         return;
     }
-    say_most(b"1,024 questions");
+    say_most(err, b"1,024 questions");
 }
 
 // The count of rules, or else a claim, or else the count of literals.
-fn say_rule(line: &[u8], number: usize, claims: usize) {
+fn say_rule(err: Stderr, line: &[u8], number: usize, claims: usize) {
     // rule k stands in line k + 1
     if checks::MOST_RULES + 1 < number {
-        say_most(b"6,144 rules");
+        say_most(err, b"6,144 rules");
         return;
     }
     let claim = digits::first_past(line, claims);
     if claim.start < claim.end {
-        say_not_below(b"claim", digits::bytes_of(line, claim), claims);
+        say_not_below(err, b"claim", digits::bytes_of(line, claim), claims);
         return;
     }
-    say_most(b"16,384 literals");
+    say_most(err, b"16,384 literals");
 }
 
 // Of a line behind the first, which has the counts.
-fn say_later(line: &[u8], number: usize, first: &[u8]) {
+fn say_later(err: Stderr, line: &[u8], number: usize, first: &[u8]) {
     let a = digits::next(first, 0);
     let t = digits::next(first, a.end);
     let claims = digits::value(first, a);
     if line::first_byte(line) == b'a' {
-        say_question(line, claims, digits::value(first, t));
+        say_question(err, line, claims, digits::value(first, t));
     } else {
-        say_rule(line, number, claims);
+        say_rule(err, line, number, claims);
     }
 }
 
-pub(crate) fn say_fault(text: &[u8], number: usize) {
+pub(crate) fn say_fault(err: Stderr, text: &[u8], number: usize) {
     let first = line::line_of(text, 1);
-    say(b": ");
+    say(err, b": ");
     if number == 1 {
-        say_first(first);
+        say_first(err, first);
     } else {
-        say_later(line::line_of(text, number), number, first);
+        say_later(err, line::line_of(text, number), number, first);
     }
 }

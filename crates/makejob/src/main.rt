@@ -14,54 +14,61 @@ mod typed;
 
 use console::input;
 use job::{Check, checks};
-use libc::STDOUT_FILENO;
 use said::say;
+use std::io::{Stderr, Stdout};
 
 // Check 14 or 15 in words. 16 can't come, since the buffer has room for the largest job.
-fn say_refusal(text: &[u8], number: u32, line: usize) {
-    say(b"makejob: line ");
-    said::say_number(line);
+fn say_refusal(err: Stderr, text: &[u8], number: u32, line: usize) {
+    say(err, b"makejob: line ");
+    said::say_number(err, line);
     if number == 14 {
-        misfit::say_misfit(text, line);
+        misfit::say_misfit(err, text, line);
     } else {
-        limits::say_fault(text, line);
+        limits::say_fault(err, text, line);
     }
-    say(b"\n");
+    say(err, b"\n");
 }
 
-fn write_job(job: &[u8]) {
-    if io::write_all(STDOUT_FILENO, job) {
+fn write_job(out: Stdout, err: Stderr, job: &[u8]) {
+    if out.write_all(job).is_ok() {
         return;
     }
-    say(b"makejob: the job can't be written to standard output; is the disk full?\n");
+    say(
+        err,
+        b"makejob: the job can't be written to standard output; is the disk full?\n",
+    );
 }
 
-fn make(text: &[u8], out: &mut [u8]) {
+fn make(out: Stdout, err: Stderr, text: &[u8], job: &mut [u8]) {
     if input::MOST_BYTES < text.len() {
         say(
+            err,
             b"makejob: the text has over 1,048,576 bytes, more than the lines of any job; split the field\n",
         );
         return;
     }
-    let made = typed::make_job(text, out);
+    let made = typed::make_job(text, job);
     let check = made.check;
     let length = made.length;
     match check {
-        Check::Accepted => write_job(&out[..length]),
-        Check::Refused { number, place } => say_refusal(text, number, place),
+        Check::Accepted => write_job(out, err, &job[..length]),
+        Check::Refused { number, place } => say_refusal(err, text, number, place),
     }
 }
 
-fn main() {
+fn main(rt: HostRuntime) {
+    let err = rt.stderr();
+    let mut stdin = rt.stdin();
     let mut text = input::room();
     let mut out = [0u8; checks::MOST_BYTES];
-    let read = input::read_input(&mut text);
+    let read = input::read_input(&mut stdin, &mut text);
     let length = read.length;
     if !read.sound {
         say(
+            err,
             b"makejob: standard input can't be read; give a file of lines, as in `makejob < my.rules`\n",
         );
         return;
     }
-    make(&text[..length], &mut out);
+    make(rt.stdout(), err, &text[..length], &mut out);
 }

@@ -3,17 +3,18 @@
 ghost use Rattle.std.specs.Prelude.{◌≡◌, ◌≤◌};
 ghost use Rattle.makejob.specs.Faults.{shown as shownOf};
 
-use libc::STDERR_FILENO;
+use std::io::Stderr;
 
 // The most bytes of a part that are shown.
 const SHOWN: usize = 60;
 
-pub(crate) fn say(words: &[u8]) {
-    io::write_all(STDERR_FILENO, words);
+// What standard error doesn't take is let go: there is nowhere else to say it.
+pub(crate) fn say(err: Stderr, words: &[u8]) {
+    let _ = err.write_all(words);
 }
 
-pub(crate) fn say_number(number: usize) {
-    io::print_decimal(STDERR_FILENO, number as u64);
+pub(crate) fn say_number(err: Stderr, number: usize) {
+    let _ = err.print(number);
 }
 
 // `?` for a byte that can't be printed.
@@ -39,14 +40,14 @@ fn least(a: usize, b: usize) -> usize
 }
 
 // The first bytes of a part, and `..` where there are more.
-pub(crate) fn say_part(part: &[u8]) {
+pub(crate) fn say_part(err: Stderr, part: &[u8]) {
     let n = least(part.len(), SHOWN);
     let mut shown = [0u8; SHOWN];
     for i in 0..n {
         shown[i] = printable(part[i]);
     }
-    say(&shown[..n]);
+    say(err, &shown[..n]);
     if n < part.len() {
-        say(b"..");
+        say(err, b"..");
     }
 }

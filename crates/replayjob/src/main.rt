@@ -8,135 +8,148 @@ use base::wide;
 use calls::{TurnAnswer, tally};
 use console::{faults, input, kinds};
 use job::Check;
-use libc::{STDERR_FILENO, STDOUT_FILENO};
 use listing::input::MOST_INPUT;
 use recording::named;
+use std::io::{Stderr, Stdout};
 use table::words;
 
-fn say(words: &[u8]) {
-    io::write_all(STDERR_FILENO, words);
+// What standard error doesn't take is let go: there is nowhere else to say it.
+fn say(err: Stderr, words: &[u8]) {
+    let _ = err.write_all(words);
 }
 
-fn say_number(n: usize) {
-    io::print_decimal(STDERR_FILENO, n as u64);
+fn say_number(err: Stderr, number: usize) {
+    let _ = err.print(number);
 }
 
-fn say_kind(number: usize) {
+fn say_kind(err: Stderr, number: usize) {
     let mut word = [0u8; kinds::MOST_KIND];
     let n = kinds::put_kind(&mut word, number);
-    say(&word[..n]);
+    say(err, &word[..n]);
 }
 
 // What the turn of the false pair is, on the table that holds the turns before it.
-fn say_turn(job: &[u8], table: &mut [u32], worker: usize) {
+fn say_turn(err: Stderr, job: &[u8], table: &mut [u32], worker: usize) {
     match calls::turn(job, table, worker) {
         TurnAnswer::Made(kind) => {
-            say(b"; this turn is ");
-            say_kind(tally::kind_number(kind));
+            say(err, b"; this turn is ");
+            say_kind(err, tally::kind_number(kind));
         }
         TurnAnswer::Refused {
             number: _,
             place: _,
-        } => say(b"; the job has no such worker"),
+        } => say(err, b"; the job has no such worker"),
     }
 }
 
 // Worker and kind of a pair, as the record has them.
-fn say_pair(worker: usize, kind: usize) {
-    say(b": worker ");
-    say_number(worker);
-    say(b", ");
+fn say_pair(err: Stderr, worker: usize, kind: usize) {
+    say(err, b": worker ");
+    say_number(err, worker);
+    say(err, b", ");
     if 8 <= kind {
-        say(b"byte ");
-        say_number(kind);
-        say(b", which is ");
+        say(err, b"byte ");
+        say_number(err, kind);
+        say(err, b", which is ");
     }
-    say_kind(kind);
+    say_kind(err, kind);
 }
 
 // Pair k of the record, which is false.
-fn say_false(job: &[u8], table: &mut [u32], log: &[u8], k: usize) {
-    say(b"pair ");
-    say_number(k);
+fn say_false(err: Stderr, job: &[u8], table: &mut [u32], log: &[u8], k: usize) {
+    say(err, b"pair ");
+    say_number(err, k);
     if k < log.len() / 2 {
         let worker = wide::byte(log[2 * k]);
-        say_pair(worker, wide::byte(log[2 * k + 1]));
-        say_turn(job, table, worker);
+        say_pair(err, worker, wide::byte(log[2 * k + 1]));
+        say_turn(err, job, table, worker);
     }
 }
 
 // What check `number` found wrong, with the place. 9 can't come, since the table is long enough.
-fn say_fault(job: &[u8], table: &mut [u32], log: &[u8], number: u32, place: usize) {
+fn say_fault(err: Stderr, job: &[u8], table: &mut [u32], log: &[u8], number: u32, place: usize) {
     if number == 24 {
-        say_false(job, table, log, place);
+        say_false(err, job, table, log, place);
         return;
     }
     if number == 23 {
-        say(b"the record has an odd length, so it was cut: ");
+        say(err, b"the record has an odd length, so it was cut: ");
     } else {
         let mut words = [0u8; faults::MOST_FAULT];
         let n = faults::put_fault(&mut words, number);
-        say(&words[..n]);
+        say(err, &words[..n]);
     }
-    say_number(place);
+    say_number(err, place);
 }
 
 // Where a listing takes fewer bytes it is said before it refuses them.
-fn say_length(length: usize) {
+fn say_length(err: Stderr, length: usize) {
     if MOST_INPUT < length {
-        say(b"replayjob: every pair holds, but job and schedule have ");
-        say_number(length);
-        say(b" bytes and a listing takes 65,536: verdicts will refuse them\n");
+        say(
+            err,
+            b"replayjob: every pair holds, but job and schedule have ",
+        );
+        say_number(err, length);
+        say(
+            err,
+            b" bytes and a listing takes 65,536: verdicts will refuse them\n",
+        );
     }
 }
 
 // The job, and behind it the schedule that the record names.
-fn write_run(job: &[u8], schedule: &[u8]) {
-    if io::write_all(STDOUT_FILENO, job) && io::write_all(STDOUT_FILENO, schedule) {
+fn write_run(out: Stdout, err: Stderr, job: &[u8], schedule: &[u8]) {
+    if out.write_all(job).is_ok() && out.write_all(schedule).is_ok() {
         return;
     }
-    say(b"replayjob: the schedule can't be written to standard output; is the disk full?\n");
+    say(
+        err,
+        b"replayjob: the schedule can't be written to standard output; is the disk full?\n",
+    );
 }
 
-fn replay(job: &[u8], log: &[u8], schedule: &mut [u8]) {
+fn replay(out: Stdout, err: Stderr, job: &[u8], log: &[u8], schedule: &mut [u8]) {
     let mut table = [0u32; words::MOST_WORDS];
     let answer = recording::replay(job, &mut table, log);
     let check = answer.check;
     if let Check::Refused { number, place } = check {
-        say(b"replayjob: refused by check ");
-        say_number(number as usize);
-        say(b": ");
-        say_fault(job, &mut table, log, number, place);
-        say(b"\n");
+        say(err, b"replayjob: refused by check ");
+        say_number(err, number as usize);
+        say(err, b": ");
+        say_fault(err, job, &mut table, log, number, place);
+        say(err, b"\n");
         return;
     }
     if log.len() / 2 <= schedule.len() {
         let turns = named::put_schedule(schedule, log);
-        say_length(job.len() + turns);
-        write_run(job, &schedule[..turns]);
+        say_length(err, job.len() + turns);
+        write_run(out, err, job, &schedule[..turns]);
     }
 }
 
 // The first word says where the job ends, as for `verdicts`.
-fn replay_day(day: &[u8], schedule: &mut [u8]) {
+fn replay_day(out: Stdout, err: Stderr, day: &[u8], schedule: &mut [u8]) {
     let end = listing::input::job_end(day);
-    replay(&day[..end], &day[end..], schedule);
+    replay(out, err, &day[..end], &day[end..], schedule);
 }
 
-fn main() {
+fn main(rt: HostRuntime) {
+    let err = rt.stderr();
+    let mut stdin = rt.stdin();
     let mut day = input::room();
     let mut schedule = input::room();
-    let read = input::read_input(&mut day);
+    let read = input::read_input(&mut stdin, &mut day);
     let length = read.length;
     if !read.sound {
         say(
+            err,
             b"replayjob: standard input can't be read; give a job and its record, as in `replayjob < my.day`\n",
         );
         return;
     }
     if length == input::ROOM {
-        say(b"replayjob: the input has over 1,048,576 bytes\n");
+        say(err, b"replayjob: the input has over 1,048,576 bytes\n");
         return;
     }
-    replay_day(&day[..length], &mut schedule);
+    replay_day(rt.stdout(), err, &day[..length], &mut schedule);
 }

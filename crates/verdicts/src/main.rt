@@ -6,65 +6,78 @@
 
 use console::{faults, input};
 use job::Check;
-use libc::{STDERR_FILENO, STDOUT_FILENO};
 use listing::input::{MOST_INPUT, TOO_LONG};
 use listing::list::MOST_TEXT;
+use std::io::{Stderr, Stdout};
 
-fn say(words: &[u8]) {
-    io::write_all(STDERR_FILENO, words);
+// What standard error doesn't take is let go: there is nowhere else to say it.
+fn say(err: Stderr, words: &[u8]) {
+    let _ = err.write_all(words);
+}
+
+fn say_number(err: Stderr, number: usize) {
+    let _ = err.print(number);
 }
 
 // What check `number` found wrong, up to the place. 16 can't come, since there is room.
-fn say_fault(number: u32, place: usize) {
+fn say_fault(err: Stderr, number: u32, place: usize) {
     if number == 11 {
-        say(b"the schedule names no worker of the job; its byte ");
+        say(err, b"the schedule names no worker of the job; its byte ");
         return;
     }
     if MOST_INPUT < place {
-        say(b"the input has over 65,536 bytes; bytes read: ");
+        say(err, b"the input has over 65,536 bytes; bytes read: ");
         return;
     }
     let mut words = [0u8; faults::MOST_FAULT];
     let n = faults::put_fault(&mut words, number);
-    say(&words[..n]);
+    say(err, &words[..n]);
 }
 
 // One line on standard error.
-fn say_refusal(number: u32, place: usize) {
-    say(b"verdicts: refused by check ");
-    io::print_decimal(STDERR_FILENO, number as u64);
-    say(b": ");
-    say_fault(number, place);
-    io::print_decimal(STDERR_FILENO, place as u64);
-    say(b"\n");
+fn say_refusal(err: Stderr, number: u32, place: usize) {
+    say(err, b"verdicts: refused by check ");
+    say_number(err, number as usize);
+    say(err, b": ");
+    say_fault(err, number, place);
+    say_number(err, place);
+    say(err, b"\n");
 }
 
-fn write_text(text: &[u8]) {
-    if io::write_all(STDOUT_FILENO, text) {
+fn write_text(out: Stdout, err: Stderr, text: &[u8]) {
+    if out.write_all(text).is_ok() {
         return;
     }
-    say(b"verdicts: the listing can't be written to standard output; is the disk full?\n");
+    say(
+        err,
+        b"verdicts: the listing can't be written to standard output; is the disk full?\n",
+    );
 }
 
-fn list(input: &[u8], text: &mut [u8]) {
+fn list(out: Stdout, err: Stderr, input: &[u8], text: &mut [u8]) {
     let listed = listing::list::list(input, text);
     let length = listed.length;
     let check = listed.check;
-    write_text(&text[..length]);
+    write_text(out, err, &text[..length]);
     if let Check::Refused { number, place } = check {
-        say_refusal(number, place);
+        say_refusal(err, number, place);
     }
 }
 
 // One byte more is read than an input may have, so that a longer one shows.
-fn main() {
+fn main(rt: HostRuntime) {
+    let err = rt.stderr();
+    let mut stdin = rt.stdin();
     let mut input = [0u8; TOO_LONG];
     let mut text = [0u8; MOST_TEXT];
-    let read = input::read_input(&mut input);
+    let read = input::read_input(&mut stdin, &mut input);
     let length = read.length;
     if !read.sound {
-        say(b"verdicts: standard input can't be read; give a job, as in `verdicts < my.job`\n");
+        say(
+            err,
+            b"verdicts: standard input can't be read; give a job, as in `verdicts < my.job`\n",
+        );
         return;
     }
-    list(&input[..length], &mut text);
+    list(rt.stdout(), err, &input[..length], &mut text);
 }
