@@ -4,7 +4,6 @@
 --   form-rises          and rise
 --   form_key            a job and its form say the same
 --   key-form, form_same   jobs say the same exactly where they have one form
---   form-again          the form of a form is itself
 use mathlib.Core.Path.{◌≡◌, refl, sym, ◌∙◌, ap, subst}
 use mathlib.Core.List.Memᴰ
 use mathlib.Core.List.{List, map}
@@ -85,6 +84,3 @@ key-form j k h =
 
 pub form_same : (j k : Job) → form j ≡ form k → SameRules j k
 form_same j k e = key-on (subst (SameRules j) e (form_key j)) (key-sym (form_key k))
-
-pub form-again : (j : Job) → form (form j) ≡ form j
-form-again j = sym (key-form j (form j) (form_key j))

@@ -26,11 +26,15 @@ use Rattle.forms.specs.Form.{form, form_bytes, SameRules, earlier}
 use Rattle.forms.specs.Laws.{OneForm, ByteOrder, at_most}
 use Rattle.forms.proofs.Keyed.{ltb_strict}
 use Rattle.forms.proofs.Lexic.{lex_strict, lex-decides, lex-begins}
-use Rattle.forms.proofs.Keys.{form_key, key-form, form_same, form-again, key-sym}
+use Rattle.forms.proofs.Keys.{form_key, key-form, form_same, key-sym}
 use Rattle.forms.proofs.Verdicts.{verdict_same}
 use Rattle.forms.proofs.FormValid.{form-valid, form-length}
 use Rattle.forms.proofs.OneWay.{one_way}
 use Rattle.forms.proofs.Worked.{forms_right}
+
+-- the form of a form is itself
+form-again : (j : Job) → form (form j) ≡ form j
+form-again j = sym (key-form j (form j) (form_key j))
 
 valid : (s : List ℕ) → Accepted ≡ check_job s → Valid (job_of s)
 valid s a = well_formed-valid s (well_formed s a)

@@ -2,6 +2,7 @@ pub mod Worked
 pub mod Firsts
 pub mod Keyed
 pub mod Lexic
+pub mod Inserting
 pub mod Sorting
 pub mod Orders
 pub mod Shorter

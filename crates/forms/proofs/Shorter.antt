@@ -11,7 +11,7 @@ use Rattle.job.specs.Job.{Rule, body_count}
 use Rattle.forms.specs.Order.{Order}
 use Rattle.forms.specs.Sorting.{insert, sort}
 use Rattle.forms.specs.Form.{literal_order, rule_order, form_rule}
-use Rattle.forms.proofs.Sorting.{insert-way}
+use Rattle.forms.proofs.Inserting.{insert-way}
 
 module _ {A : Type 0} (below : Order A) where
   insert-length : (x : A) (s : List A) → length (insert below x s) ≤ suc (length s)
