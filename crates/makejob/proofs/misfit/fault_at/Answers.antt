@@ -1,16 +1,13 @@
--- `makejob::misfit::fault_at` meets its contract. Assumes nothing.
 use Prim.Native.Nat.{ℕ}
 use mathlib.Core.Path.{◌≡◌, refl, ap}
 use mathlib.Core.Logic.{◌⊎◌, inl, inr}
 use native.Mathlib.Omega.{arith}
-use borrow.Author.Rules.{rules}
 use denote.Enum.Declared.{tag_of}
 use Rattle.makejob.specs.Faults.{fault_at}
 use Rattle.makejob.specs.declared.sort.Sort.{Sort}
 use Rattle.makejob.specs.declared.sort.Sort.TheVariants.{Empty, Blank, Unended, Return, LateRule, LeadingZero, Other}
 use Rattle.makejob.specs.contracts.sort.Sort.{the_type}
-use Rattle.makejob.proofs.misfit.fault_at.Statement.{statement}
-use Rattle.makejob.proofs.misfit.fault_at.Tie as tie
+use Rattle.makejob.proofs.misfit.fault_at.Goals as goal
 
 -- none of the other sorts has the number of a rule behind a question
 abbrev Others : ℕ → Type 0
@@ -34,15 +31,9 @@ kept LateRule at n = absurd (n refl)
 kept LeadingZero at n = refl
 kept Other at n = refl
 
-enum_told : tie.Need-enum-told
-enum_told c = search rules
-
-returns : tie.Need-returns
+pub returns-in-LateRule : goal.returns-in-LateRule
 unfolding fault_at
-returns c = (rw c.enum_told.given.1, omega arith)
+returns-in-LateRule c = (rw c.in-LateRule.is, omega arith)
 
-returns-2 : tie.Need-returns-2
-returns-2 c = (kept c.before.args.sort c.before.args.at (λ e. not_late _ (ap (tag_of the_type) e) c.match.keys2), omega arith)
-
-pub fault-at-spec : {M : Type 1} → statement M
-fault-at-spec = tie.close (tie.spec enum_told returns returns-2)
+pub returns-in_default : goal.returns-in_default
+returns-in_default c = (kept c.args.sort c.args.at (λ e. not_late _ (ap (tag_of the_type) e) c.in_default.in_default-own.keys2), omega arith)
