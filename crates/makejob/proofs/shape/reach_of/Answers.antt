@@ -11,8 +11,7 @@ use Rattle.makejob.proofs.shape.reach_of.Goals as goal
 
 pub loop-i-init : goal.loop-i-init
 unfolding reach_of
-loop-i-init c = (refl, omega arith, ap (λ (st : State). reach_from st 0 c.args.line.now) c.start_of_lem.ensures)
--- TODO step start_of_lem
+loop-i-init c = (refl, omega arith, ap (λ (st : State). reach_from st 0 c.args.line.now) c.start_of-state.ensures)
 
 pub returns-then-is_bad : goal.returns-then-is_bad
 returns-then-is_bad c =     let l = c.loop-i in
