@@ -3,7 +3,7 @@ ghost use Rattle.std.specs.Prelude.{◌≡◌, ℕ, ◌+◌, ◌<◌, ◌≤◌,
 ghost use Rattle.job.specs.Accepted.{WellFormed};
 ghost use Rattle.job.specs.Format.{claims, job_of};
 ghost use Rattle.semantics.specs.Model.{program_of, verdict, byte_of};
-ghost use Rattle.table.specs.Layout.{used as usedBy};
+ghost use Rattle.table.specs.Layout.{used as used_by};
 ghost use Rattle.rulesets.specs.Census.{needed_by};
 
 use listing::play;
@@ -40,7 +40,7 @@ fn blank_words() -> [u32; MOST_WORDS]
 
 // The changing turns that one worker's questions need.
 pub fn turns_needed(job: &[u8]) -> u64
-    requires { WellFormed job.now × (usedBy (job_of job.now) ≤ 23) }
+    requires { WellFormed job.now × (used_by (job_of job.now) ≤ 23) }
     ensures { result ≡ needed_by (job_of job.now) }
 {
     let mut table = blank_words();

@@ -4,7 +4,7 @@ ghost use Rattle.base.specs.Choose.{pick};
 ghost use Rattle.semantics.specs.Model.{byte_of};
 ghost use Rattle.rulesets.specs.Sets.{set_count, set_no};
 ghost use Rattle.rulesets.specs.Census.{first_verdict, turns_for};
-ghost use Rattle.counting.specs.Meeting.{met as metBy};
+ghost use Rattle.counting.specs.Meeting.{met as met_by};
 
 use crate::{needed, write};
 use rulesets::Counts;
@@ -22,7 +22,7 @@ fn one_if(verdict: u8, this: u8) -> u64
 // The numbers with one more set, at place k: claim 0's verdict in it, and the turns that it needs.
 fn met(counts: Counts, k: usize, verdict: u8, turns: u64) -> Counts
     requires { (counts.trues ≤ k) × (counts.falses ≤ k) × (counts.undefineds ≤ k) × (k < 21952) }
-    ensures { result ≡ metBy counts k verdict turns }
+    ensures { result ≡ met_by counts k verdict turns }
 {
     let trues = counts.trues + one_if(verdict, 1);
     let falses = counts.falses + one_if(verdict, 2);
@@ -55,7 +55,7 @@ fn blank_job() -> [u8; write::MOST_JOB]
 // The numbers with set k.
 pub fn met_set(counts: Counts, size: usize, k: usize) -> Counts
     requires { (1 ≤ size) × (size ≤ 3) × (k < set_count size) × (counts.trues ≤ k) × (counts.falses ≤ k) × (counts.undefineds ≤ k) }
-    ensures { result ≡ metBy counts k (byte_of (first_verdict (set_no size k))) (turns_for (set_no size k)) }
+    ensures { result ≡ met_by counts k (byte_of (first_verdict (set_no size k))) (turns_for (set_no size k)) }
 {
     let mut job = blank_job();
     let n = write::put_set(&mut job, size, k);

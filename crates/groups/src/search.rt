@@ -7,7 +7,7 @@ ghost use Rattle.job.specs.Claims.{Index};
 ghost use Rattle.job.specs.Format.{claims, rules as rules_of, literals, literal_at, job_of};
 ghost use Rattle.job.specs.Job.{most_claims, claim_of};
 ghost use Rattle.groups.specs.Groups.{foreign, abroad};
-ghost use Rattle.groups.specs.Scopes.{settled as settledFor, narrow as narrowFor, visit, Fits, Known, Expanded};
+ghost use Rattle.groups.specs.Scopes.{settled as settled_for, narrow as narrow_for, visit, Fits, Known, Expanded};
 
 use base::wide;
 use job::{ClaimIndex, Cursor, format};
@@ -15,7 +15,7 @@ use job::{ClaimIndex, Cursor, format};
 // Whether a claim of this scope is known to lead to nothing foreign for the group.
 fn settled(scope: usize, group: usize) -> bool
     requires { group < 256 }
-    ensures { result ≡ settledFor group scope }
+    ensures { result ≡ settled_for group scope }
 {
     if scope == group + 1 {
         return true;
@@ -26,7 +26,7 @@ fn settled(scope: usize, group: usize) -> bool
 // The scope of a claim that is met for the group and not settled: its first, or public only where it had another group's.
 fn narrow(scope: usize, group: usize) -> usize
     requires { group < 256 }
-    ensures { result ≡ narrowFor group scope }
+    ensures { result ≡ narrow_for group scope }
 {
     if scope == 0 {
         return group + 1;
@@ -36,8 +36,8 @@ fn narrow(scope: usize, group: usize) -> usize
 
 // Meets a claim: unless it is settled its scope narrows, and it joins the queue. How long the queue is then.
 fn meet(claim: usize, group: usize, scopes: &mut [u16], queue: &mut [u16], top: usize) -> usize
-    requires { (claim < most_claims) × (group < 256) × Fits group (record { scopes = scopes.now; queue = queue.old; top = top }) }
-    ensures { visit group claim (record { scopes = scopes.entry.now; queue = queue.old; top = top }) ≡ record { scopes = scopes.exit.now; queue = queue.new; top = result } }
+    requires { (claim < most_claims) × (group < 256) × Fits group (record { scopes = scopes.old; queue = queue.old; top = top }) }
+    ensures { visit group claim (record { scopes = scopes.old; queue = queue.old; top = top }) ≡ record { scopes = scopes.new; queue = queue.new; top = result } }
 {
     let scope = wide::half(scopes[claim]);
     if settled(scope, group) {
@@ -59,8 +59,8 @@ fn expand(
     bottom: usize,
 ) -> usize
     requires well_formed { WellFormed job.now × (rules ≡ rules_of job.now) × (from.at ≤ from.end) × (from.end ≤ literals job.now) × (group < 256) }
-    requires fits { Fits group (record { scopes = scopes.now; queue = queue.old; top = bottom }) }
-    ensures { Expanded (job_of job.now) group (λ y. claim_of (literal_at job.now (rules_of job.now) y)) from.at from.end (record { scopes = scopes.entry.now; queue = queue.old; top = bottom }) (record { scopes = scopes.exit.now; queue = queue.new; top = result }) }
+    requires fits { Fits group (record { scopes = scopes.old; queue = queue.old; top = bottom }) }
+    ensures { Expanded (job_of job.now) group (λ y. claim_of (literal_at job.now (rules_of job.now) y)) from.at from.end (record { scopes = scopes.old; queue = queue.old; top = bottom }) (record { scopes = scopes.new; queue = queue.new; top = result }) }
 {
     let mut cursor = from;
     let mut top = bottom;

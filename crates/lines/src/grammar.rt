@@ -1,8 +1,8 @@
 // The machine that reads a text byte by byte. The contracts cite specs/Grammar.
 ghost use Rattle.std.specs.Prelude.{◌≡◌, true, ◌+◌, ◌*◌, ◌-◌, ◌<◌, ◌≤◌, length, get_or};
 ghost use Rattle.lines.specs.Lines.{letters};
-ghost use Rattle.lines.specs.Grammar.{is_digit, after as afterWord, spelled as spelledOf, first as first_of, only as onlyOf};
-ghost use Rattle.lines.specs.Grammar.{either as either_of, ended as ended_of, more as moreOf, any_line, body_next, step as step_of, is_bad, line_start};
+ghost use Rattle.lines.specs.Grammar.{is_digit, after as after_word, spelled as spelled_of, first as first_of, only as only_of};
+ghost use Rattle.lines.specs.Grammar.{either as either_of, ended as ended_of, more as more_of, any_line, body_next, step as step_of, is_bad, line_start};
 ghost use Rattle.lines.specs.Numbering.{cap, digit_by, unless_digit, event_in};
 
 use crate::{Event, Slot, State, Word};
@@ -61,7 +61,7 @@ fn last(word: Word) -> usize
 
 // The state behind a whole word.
 fn after(word: Word) -> State
-    ensures { result ≡ afterWord word }
+    ensures { result ≡ after_word word }
 {
     match word {
         Word::ClaimsWord => State::First(Slot::ClaimCount),
@@ -76,7 +76,7 @@ fn after(word: Word) -> State
 
 // The state behind byte b where k letters of a word stand before it.
 fn spelled(word: Word, k: usize, b: u8) -> State
-    ensures { result ≡ spelledOf word k b }
+    ensures { result ≡ spelled_of word k b }
 {
     if b != letter(word, k) {
         return State::Bad;
@@ -101,7 +101,7 @@ fn first(slot: Slot, b: u8) -> State
 }
 
 fn only(b: u8, wanted: u8, next: State) -> State
-    ensures { result ≡ onlyOf b wanted next }
+    ensures { result ≡ only_of b wanted next }
 {
     if b == wanted {
         return next;
@@ -154,7 +154,7 @@ fn ended(slot: Slot, b: u8) -> State
 
 // A byte behind a digit of a number that isn't 0.
 fn more(slot: Slot, b: u8) -> State
-    ensures { result ≡ moreOf slot b }
+    ensures { result ≡ more_of slot b }
 {
     if is_digit(b) {
         return State::More(slot);

@@ -1,5 +1,5 @@
 // The turns after the schedule: workers 0 to T - 1 over and over, none once all is answered.
-// The contracts cite specs/Finish, and `runTable`, `runKinds` and `counted` of the turns' specs.
+// The contracts cite specs/Finish, and `run_table`, `run_kinds` and `counted` of the turns' specs.
 ghost use Rattle.std.specs.Prelude.{◌≡◌, ℕ, ◌<◌, get_or};
 ghost use Rattle.job.specs.Accepted.{WellFormed};
 ghost use Rattle.base.specs.Number.{Number};
@@ -7,7 +7,7 @@ ghost use Rattle.job.specs.Format.{workers as workers_of, job_of};
 ghost use Rattle.table.specs.Questions.{Listed};
 ghost use Rattle.table.specs.Ranges.{InRange};
 ghost use Rattle.turn.specs.Turn.{run_table, run_kinds};
-ghost use Rattle.calls.specs.Calls.{counted as countedOf};
+ghost use Rattle.calls.specs.Calls.{counted as counted_of};
 ghost use Rattle.calls.specs.Rooms.{Room};
 ghost use Rattle.turn.specs.Ready.{Ready};
 ghost use Rattle.listing.specs.Finish.{answered_all, next_worker, finish_turns, most};
@@ -71,7 +71,7 @@ fn finish_in(
     requires listed { Listed (job_of job.now) asked.now }
     requires by_index { (k : ℕ) → get_or counts k 0 < 4294967296 }
     requires room { Room job.now place.old members.old }
-    ensures value { result ≡ countedOf counts (run_kinds (job_of job.now) table.old (finish_turns (most (job_of job.now)) (job_of job.now) table.old 0)) }
+    ensures value { result ≡ counted_of counts (run_kinds (job_of job.now) table.old (finish_turns (most (job_of job.now)) (job_of job.now) table.old 0)) }
     ensures table_after { table.new ≡ run_table (job_of job.now) table.old (finish_turns (most (job_of job.now)) (job_of job.now) table.old 0) }
 {
     let mut left = most_turns(job);
@@ -104,7 +104,7 @@ pub fn finish(
     requires ready { Ready job.now index.now table.old }
     requires listed { Listed (job_of job.now) asked.now }
     requires by_index { (k : ℕ) → get_or counts k 0 < 4294967296 }
-    ensures value { result ≡ countedOf counts (run_kinds (job_of job.now) table.old (finish_turns (most (job_of job.now)) (job_of job.now) table.old 0)) }
+    ensures value { result ≡ counted_of counts (run_kinds (job_of job.now) table.old (finish_turns (most (job_of job.now)) (job_of job.now) table.old 0)) }
     ensures table_after { table.new ≡ run_table (job_of job.now) table.old (finish_turns (most (job_of job.now)) (job_of job.now) table.old 0) }
 {
     let claims = format::claim_count(job);

@@ -1,7 +1,7 @@
 // What is said on standard error: words, numbers, and parts of the text. No contract can say which bytes a call of the system writes,
 // so a function that only writes words has none, here and in the modules above: it is safe, it ends, and a stored test holds its words.
 ghost use Rattle.std.specs.Prelude.{◌≡◌, ◌≤◌};
-ghost use Rattle.makejob.specs.Faults.{shown as shownOf};
+ghost use Rattle.makejob.specs.Faults.{shown as shown_of};
 
 use std::io::Stderr;
 
@@ -19,7 +19,7 @@ pub(crate) fn say_number(err: Stderr, number: usize) {
 
 // `?` for a byte that can't be printed.
 fn printable(b: u8) -> u8
-    ensures { result ≡ shownOf b }
+    ensures { result ≡ shown_of b }
 {
     if b < 32 {
         return b'?';

@@ -1,6 +1,6 @@
 // What sort of fault a line has that doesn't fit. The contracts cite specs/Faults.
 ghost use Rattle.std.specs.Prelude.{◌≡◌};
-ghost use Rattle.makejob.specs.Faults.{is_late as lateOf, sort_of_byte, sort_at_end, sort_in, sort_of};
+ghost use Rattle.makejob.specs.Faults.{is_late as late_of, sort_of_byte, sort_at_end, sort_in, sort_of};
 
 use crate::line;
 use crate::shape::Reach;
@@ -21,7 +21,7 @@ pub enum Sort {
 
 // Whether a line is a rule and the one before it a question.
 fn is_late(text: &[u8], line: usize) -> bool
-    ensures { result ≡ lateOf text.now line }
+    ensures { result ≡ late_of text.now line }
 {
     if line < 2 {
         return false;

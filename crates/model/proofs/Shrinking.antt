@@ -12,7 +12,7 @@ use native.Mathlib.Omega.{arith}
 use lib.Dec.{T, T_not, not_T}
 use lib.ListN.{length, get_or}
 use Rattle.base.specs.Sets.{Claims, ◌⊆◌, set_of}
-use Rattle.base.proofs.Bools.{is, is-not, or_cases, and_left}
+use Rattle.base.proofs.Bools.{is-not, or_cases, and_left}
 use Rattle.job.specs.Accepted.{WellFormed}
 use Rattle.job.specs.Format.{claims, rules, literals, head_at, missing_at, literal_at, job_of}
 use Rattle.job.specs.declared.Literal.{Literal}

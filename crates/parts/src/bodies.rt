@@ -6,7 +6,7 @@ ghost use Rattle.table.specs.Layout.{mark_word};
 ghost use Rattle.table.specs.Ranges.{InRange};
 ghost use Rattle.writing.specs.Written.{Put};
 ghost use Rattle.parts.specs.Part.{within, part_literals};
-ghost use Rattle.parts.specs.Written.{literals_in, lowered as loweredBy, status_of, literal_bytes, with_own, Beside};
+ghost use Rattle.parts.specs.Written.{literals_in, lowered as lowered_by, status_of, literal_bytes, with_own, Beside};
 
 use base::wide;
 use fields::words;
@@ -31,7 +31,7 @@ fn inside(place: &[u16], literal: Literal) -> bool
 // What a body is that was `state` before it met this literal.
 fn lowered(table: &[u32], place: &[u16], literal: Literal, state: usize) -> usize
     requires { (claim_of literal < length place.now) × (mark_word (claim_of literal) < length table.now) }
-    ensures { result ≡ loweredBy table.now place.now literal state }
+    ensures { result ≡ lowered_by table.now place.now literal state }
 {
     if inside(place, literal) {
         return state;

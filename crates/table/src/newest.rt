@@ -2,7 +2,7 @@
 ghost use Rattle.std.specs.Prelude.{◌≡◌, ℕ, ◌+◌, ◌≤◌, ◌<◌, length, get_or, set};
 ghost use Rattle.job.specs.Job.{most_claims, most_workers};
 ghost use Rattle.table.specs.Layout.{workers_from, newest_at, answers_from};
-ghost use Rattle.table.specs.Newest.{is_newer, newer as newerOf, sought, Searched, with_newest};
+ghost use Rattle.table.specs.Newest.{is_newer, newer as newer_of, sought, Searched, with_newest};
 
 use crate::{stores, words};
 use base::wide;
@@ -24,7 +24,7 @@ fn is_newer(table: &[u32], c: usize, d: usize) -> bool
 // Claim c + 1, or best where that is newer; best is a claim + 1, or 0 for none.
 pub fn newer(table: &[u32], c: usize, best: usize) -> usize
     requires { (c < most_claims) × (workers_from (c + 1) ≤ length table.now) × (best ≤ most_claims) × (workers_from best ≤ length table.now) }
-    ensures { result ≡ newerOf table.now c best }
+    ensures { result ≡ newer_of table.now c best }
 {
     if best == 0 {
         return c + 1;

@@ -2,7 +2,7 @@
 ghost use Rattle.std.specs.Prelude.{◌≡◌, ◌≤◌, length, get_or};
 ghost use Rattle.job.specs.Accepted.{WellFormed};
 ghost use Rattle.job.specs.Format.{job_of};
-ghost use Rattle.table.specs.Layout.{used as usedWords, fixed_words};
+ghost use Rattle.table.specs.Layout.{used as used_words, fixed_words};
 ghost use Rattle.table.specs.Start.{start_words};
 
 use crate::words;
@@ -21,7 +21,7 @@ fn start_word(header: &[u32; words::FIXED_WORDS], i: usize) -> u32
 // Starts the table: the header and zeros; words past those used stay as they are.
 pub fn write_start(job: &[u8], table: &mut [u32])
     requires well_formed { WellFormed job.now }
-    requires job_in_bounds { usedWords (job_of job.now) ≤ length table.old }
+    requires job_in_bounds { used_words (job_of job.now) ≤ length table.old }
     ensures { table.new ≡ start_words (job_of job.now) table.old }
 {
     let header = words::header_words(job);

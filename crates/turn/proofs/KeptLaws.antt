@@ -16,7 +16,7 @@ use lib.Dec.{T}
 use lib.ListN.{length, get_or, set, length-set}
 use lib.Seq.{get_or-set_same, get_or-set_other}
 use Rattle.base.specs.Lists.{is_in}
-use Rattle.base.specs.Sets.{set_of, count}
+use Rattle.base.specs.Sets.{set_of}
 use Rattle.base.proofs.Bools.{is-not, same, or_left, or_right, or_cases}
 use Rattle.base.proofs.Paths.{trans, one, stays}
 use Rattle.base.proofs.Sets.{count_le}

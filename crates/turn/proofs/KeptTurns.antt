@@ -4,7 +4,7 @@
 --   alike_forgets      where no claim becomes complete and no cursor moves, the set is right, and the next claim is forgotten: open_forgets
 --   Moved              a cursor moved on: what is led to more (moved_less)
 --   skip-keeps, complete-keeps, next_lacks   it passed the rest of a failed rule; a literal of a complete claim; of one that isn't
-use Prim.Native.Nat.{ℕ, ◌+◌, ◌-◌, ◌≤◌, ◌<◌}
+use Prim.Native.Nat.{ℕ, ◌+◌, ◌≤◌, ◌<◌}
 use mathlib.Core.Path.{◌≡◌, sym, ◌∙◌, ap, subst, subst⁻¹}
 use mathlib.Core.List.{List}
 use mathlib.Core.Logic.{◌⊎◌, inl, inr, ⊎_elim, by_cases}

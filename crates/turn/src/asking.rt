@@ -1,8 +1,8 @@
-// The turn of a worker that owns nothing open: its next question. The contracts cite `askTurn` of specs/Turn.
+// The turn of a worker that owns nothing open: its next question. The contracts cite `ask_turn` of specs/Turn.
 ghost use Rattle.std.specs.Prelude.{◌≡◌, List, ℕ, ◌<◌, length, get_or};
 ghost use Rattle.job.specs.Format.{workers as workers_of, job_of};
 ghost use Rattle.job.specs.Accepted.{WellFormed};
-ghost use Rattle.table.specs.Layout.{answered as answeredOf};
+ghost use Rattle.table.specs.Layout.{answered as answered_of};
 ghost use Rattle.table.specs.Questions.{asked_by, Listed};
 ghost use Rattle.table.specs.Ranges.{InRange};
 ghost use Rattle.table.specs.Newest.{NewestKept};
@@ -16,7 +16,7 @@ use table::{QuestionIndex, questions, stores, words};
 // Worker w puts its question n, which stands at position k.
 fn ask(job: &[u8], table: &mut [u32], w: usize, n: usize, k: usize, kept: Kept) -> Taken
     requires well_formed { WellFormed job.now × InRange (job_of job.now) table.old × (w < workers_of job.now) × NewestKept (job_of job.now) table.old }
-    requires n_value { (n ≡ answeredOf (job_of job.now) table.old w) × (n < length (asked_by (job_of job.now) w)) × (k ≡ get_or (asked_by (job_of job.now) w) n 0) }
+    requires n_value { (n ≡ answered_of (job_of job.now) table.old w) × (n < length (asked_by (job_of job.now) w)) × (k ≡ get_or (asked_by (job_of job.now) w) n 0) }
     ensures { (place members : List ℕ) → Keeps (job_of job.now) table.old kept place members → Done (job_of job.now) (keeping (job_of job.now) (ask_turn (job_of job.now) table.old w)) result table.new place members }
 {
     let claims = format::claim_count(job);

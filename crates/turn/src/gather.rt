@@ -5,7 +5,7 @@ ghost use Rattle.job.specs.Job.{most_claims, most_literals};
 ghost use Rattle.job.specs.Format.{claims, job_of};
 ghost use Rattle.table.specs.Layout.{number_word, workers_from, cursor as passed_by};
 ghost use Rattle.turn.specs.Ready.{Ready};
-ghost use Rattle.turn.specs.Gather.{met, Gathered, Room, visit as visitOf, visits, Leading, Spread};
+ghost use Rattle.turn.specs.Gather.{met, Gathered, Room, visit as visit_of, visits, Leading, Spread};
 
 use crate::failing;
 use base::wide;
@@ -14,8 +14,8 @@ use table::words;
 
 // Meets claim b: it joins the set, unless it is complete or was met before. How many members the set then has.
 fn visit(table: &[u32], b: usize, place: &mut [u16], members: &mut [u16], top: usize) -> usize
-    requires { (b < length place.now) × (workers_from (length place.now) ≤ length table.now) × Gathered (length place.now) (record { place = place.now; members = members.old; top = top }) }
-    ensures { visitOf table.now b (record { place = place.entry.now; members = members.old; top = top }) ≡ record { place = place.exit.now; members = members.new; top = result } }
+    requires { (b < length place.old) × (workers_from (length place.old) ≤ length table.now) × Gathered (length place.old) (record { place = place.old; members = members.old; top = top }) }
+    ensures { visit_of table.now b (record { place = place.old; members = members.old; top = top }) ≡ record { place = place.new; members = members.new; top = result } }
 {
     if words::is_complete(words::mark_at(table, b)) {
         return top;
@@ -39,8 +39,8 @@ fn expand(
     members: &mut [u16],
     bottom: usize,
 ) -> usize
-    requires { Room job.now rules index.now table.now (length place.now) from (record { place = place.now; members = members.old; top = bottom }) }
-    ensures { visits table.now (met job.now rules index.now table.now from) (record { place = place.entry.now; members = members.old; top = bottom }) ≡ record { place = place.exit.now; members = members.new; top = result } }
+    requires { Room job.now rules index.now table.now (length place.old) from (record { place = place.old; members = members.old; top = bottom }) }
+    ensures { visits table.now (met job.now rules index.now table.now from) (record { place = place.old; members = members.old; top = bottom }) ≡ record { place = place.new; members = members.new; top = result } }
 {
     let mut cursor = from;
     let mut top = bottom;
@@ -78,9 +78,9 @@ pub fn gather(
 ) -> usize
     requires ready { Ready job.now index.now table.now }
     requires claim_bound { (claim < claims job.now) × (set_of place.old claim ≡ false) }
-    requires gathered { Gathered (job_of job.now).claims (record { place = place.now; members = members.old; top = count }) }
+    requires gathered { Gathered (job_of job.now).claims (record { place = place.old; members = members.old; top = count }) }
     requires leading { Leading (job_of job.now) table.now place.old claim }
-    ensures { Spread (job_of job.now) table.now claim (record { place = place.entry.now; members = members.old; top = count }) (record { place = place.exit.now; members = members.new; top = result }) }
+    ensures { Spread (job_of job.now) table.now claim (record { place = place.old; members = members.old; top = count }) (record { place = place.new; members = members.new; top = result }) }
 {
     let rules = format::rule_count(job);
     let mut i = count;

@@ -6,7 +6,7 @@
 ghost use Rattle.std.specs.Prelude.{◌≡◌, List, ℕ, ◌<◌};
 ghost use Rattle.job.specs.Format.{workers as workers_of, job_of};
 ghost use Rattle.job.specs.Accepted.{WellFormed};
-ghost use Rattle.table.specs.Layout.{awaited as awaitedOf};
+ghost use Rattle.table.specs.Layout.{awaited as awaited_of};
 ghost use Rattle.table.specs.Newest.{NewestKept};
 ghost use Rattle.table.specs.Questions.{Listed};
 ghost use Rattle.table.specs.Ranges.{InRange};
@@ -61,7 +61,7 @@ pub struct Taken {
 // The turn of worker w, which awaits claim awaited - 1.
 fn wait_turn(job: &[u8], table: &mut [u32], w: usize, awaited: usize, kept: Kept) -> Taken
     requires well_formed { WellFormed job.now × InRange (job_of job.now) table.old × (w < workers_of job.now) × NewestKept (job_of job.now) table.old }
-    requires awaited_nonzero { (0 < awaited) × (awaited ≡ awaitedOf (job_of job.now) table.old w) }
+    requires awaited_nonzero { (0 < awaited) × (awaited ≡ awaited_of (job_of job.now) table.old w) }
     ensures { (place members : List ℕ) → Keeps (job_of job.now) table.old kept place members → Done (job_of job.now) (turn (job_of job.now) table.old w) result table.new place members }
 {
     let claims = format::claim_count(job);

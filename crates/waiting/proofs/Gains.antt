@@ -6,7 +6,7 @@ use Rattle.base.specs.Graph.{Reach}
 use Rattle.waiting.specs.State.{State, Own, Edge, Waits, Next, Grounded, ground, Order, leads, Goes, own, Engaged, awaiting, owning, Asked, Inv}
 use Rattle.waiting.proofs.Basics.{own_unique, waits-not}
 use Rattle.waiting.proofs.Links.{Linked, before, now}
-use Rattle.waiting.proofs.Grows.{Grows, low, up, order, begun, named, closed, full, back as leads-back, goes, edge_goes, asked}
+use Rattle.waiting.proofs.Grows.{Grows, low, up, order, begun, named, closed, full, back as leads-back, edge_goes, asked}
 
 -- who owns a claim now owned it before, or it is of the set and w's
 pub data Was (s : State) (w : ℕ) (R : ℕ → Type 0) (u x : ℕ) : Type 0 where

@@ -13,4 +13,4 @@ check_room-requires c = well_formed _ (sym c.in-Accepted.is ∙ c.check_job-chec
 
 pub returns : goal.returns
 unfolding start_check
-returns c =     go _ _ c.in-Accepted.is c.check_job-check.ensures.value c.check_room.ensures
+returns c = go _ _ c.in-Accepted.is c.check_job-check.ensures.value c.check_room.ensures

@@ -21,7 +21,7 @@ read_accepted-requires c = (well_formed _ (sym c.in-Accepted.is ∙ c.check_job.
 
 pub returns-in-Refused : goal.returns-in-Refused
 unfolding read_check read_answer
-returns-in-Refused c =     let s = c.args.job.now in
+returns-in-Refused c = let s = c.args.job.now in
     let t = c.args.table.now in
     let k = c.args.claim in
     let F : Check → ReadAnswer = λ x. read_answer x t k in
@@ -29,7 +29,7 @@ returns-in-Refused c =     let s = c.args.job.now in
 
 pub returns-in-Accepted : goal.returns-in-Accepted
 unfolding read_check
-returns-in-Accepted c =     let s = c.args.job.now in
+returns-in-Accepted c = let s = c.args.job.now in
     let t = c.args.table.now in
     let k = c.args.claim in
     let F : Check → ReadAnswer = λ x. read_answer x t k in

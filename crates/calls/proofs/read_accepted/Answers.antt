@@ -16,20 +16,20 @@ use Rattle.calls.proofs.read_accepted.Goals as goal
 
 pub returns-then-claim_count-claim : goal.returns-then-claim_count-claim
 unfolding check_claim_read read_answer
-returns-then-claim_count-claim c =     let s = c.args.job.now in
+returns-then-claim_count-claim c = let s = c.args.job.now in
     let t = c.args.table.now in
     let k = c.args.claim in
     let F : Check → ReadAnswer = λ x. read_answer x t k in
     goes_on F (check_table (job_of s) t) (check_claim_read s k) c.in-Accepted.is c.check_table.ensures (ap F (stop _ _ _ _ (not_below-yes k (claims s) (omega arith))))
 
 pub mark_at-requires : goal.mark_at-requires
-mark_at-requires c =     let s = c.args.job.now in
+mark_at-requires c = let s = c.args.job.now in
     let t = c.args.table.now in
     omega (arith, room s t (ranges (job_of s) t (sym c.in-Accepted.is ∙ c.check_table.ensures)).0)
 
 pub returns-in-Refused : goal.returns-in-Refused
 unfolding read_answer
-returns-in-Refused c =     let s = c.args.job.now in
+returns-in-Refused c = let s = c.args.job.now in
     let t = c.args.table.now in
     let k = c.args.claim in
     let F : Check → ReadAnswer = λ x. read_answer x t k in
@@ -37,7 +37,7 @@ returns-in-Refused c =     let s = c.args.job.now in
 
 pub returns-else-claim_count-claim : goal.returns-else-claim_count-claim
 unfolding check_claim_read read_answer
-returns-else-claim_count-claim c =     let s = c.args.job.now in
+returns-else-claim_count-claim c = let s = c.args.job.now in
     let t = c.args.table.now in
     let k = c.args.claim in
     let F : Check → ReadAnswer = λ x. read_answer x t k in

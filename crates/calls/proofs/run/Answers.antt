@@ -7,7 +7,7 @@ use Rattle.calls.proofs.run.Goals as goal
 
 pub returns-in_default : goal.returns-in_default
 unfolding run_check
-returns-in_default c =  let both = worked-answer _ _ _ (ran-stop_then _ _ _ _ _ c.in_default.is c.check_job-check.ensures.value c.no_turns.ensures) in record { value = both.0; table_after = both.1.0; worked = both.1.1 }
+returns-in_default c = let both = worked-answer _ _ _ (ran-stop_then _ _ _ _ _ c.in_default.is c.check_job-check.ensures.value c.no_turns.ensures) in record { value = both.0; table_after = both.1.0; worked = both.1.1 }
 
 pub index_claims-index-requires : goal.index_claims-index-requires
 index_claims-index-requires c = well_formed _ (sym c.in-Accepted.is ∙ c.check_job-check.ensures.value)
@@ -20,4 +20,4 @@ run_accepted-requires c = (well_formed _ (sym c.in-Accepted.is ∙ c.check_job-c
 
 pub returns : goal.returns
 unfolding run_check
-returns c =  let both = worked-answer _ _ _ (ran_then _ _ _ _ _ c.in-Accepted.is c.check_job-check.ensures.value c.run_accepted.ensures) in record { value = both.0; table_after = both.1.0; worked = both.1.1 }
+returns c = let both = worked-answer _ _ _ (ran_then _ _ _ _ _ c.in-Accepted.is c.check_job-check.ensures.value c.run_accepted.ensures) in record { value = both.0; table_after = both.1.0; worked = both.1.1 }

@@ -8,7 +8,7 @@ pub returns-in_default : goal.returns-in_default
 returns-in_default c = ran-stop_then _ _ _ _ _ c.in_default.is c.check_table-check.ensures c.no_turns.ensures
 
 pub run_in_range-requires : goal.run_in_range-requires
-run_in_range-requires c =     let s = c.args.job.now in
+run_in_range-requires c = let s = c.args.job.now in
     let t = c.args.table.now in
     let p = c.requires in
     let r = ranges (job_of s) t (sym c.in-Accepted.is ∙ c.check_table-check.ensures) in

@@ -23,7 +23,7 @@ turn_accepted-requires c = (well_formed _ (sym c.in-Accepted.is ∙ c.check_job.
 
 pub returns-in-Refused : goal.returns-in-Refused
 unfolding turn_check turn_answer turn_table
-returns-in-Refused c =     let s = c.args.job.now in
+returns-in-Refused c = let s = c.args.job.now in
     let t = c.args.table.now in
     let w = c.args.worker in
     let F : Check → TurnAnswer = λ x. turn_answer x s t w in
@@ -33,7 +33,7 @@ returns-in-Refused c =     let s = c.args.job.now in
 
 pub returns-in-Accepted : goal.returns-in-Accepted
 unfolding turn_check
-returns-in-Accepted c =     let s = c.args.job.now in
+returns-in-Accepted c = let s = c.args.job.now in
     let t = c.args.table.now in
     let w = c.args.worker in
     let F : Check → TurnAnswer = λ x. turn_answer x s t w in

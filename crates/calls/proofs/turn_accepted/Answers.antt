@@ -17,7 +17,7 @@ use Rattle.calls.proofs.turn_accepted.Goals as goal
 
 pub returns-then-worker_count-worker : goal.returns-then-worker_count-worker
 unfolding check_turn_worker turn_answer turn_table
-returns-then-worker_count-worker c =     let s = c.args.job.now in
+returns-then-worker_count-worker c = let s = c.args.job.now in
     let t = c.args.table.now in
     let w = c.args.worker in
     let F : Check → TurnAnswer = λ x. turn_answer x s t w in
@@ -30,7 +30,7 @@ pub index_questions-asked-requires : goal.index_questions-asked-requires
 index_questions-asked-requires c = let p = c.requires in record { well_formed = p.0; counted = p.2 }
 
 pub take_single-requires : goal.take_single-requires
-take_single-requires c =     let s = c.args.job.now in
+take_single-requires c = let s = c.args.job.now in
     let t = c.args.table.now in
     let p = c.requires in
     let r = ranges (job_of s) t (sym c.in-Accepted.is ∙ c.check_table.ensures) in
@@ -38,7 +38,7 @@ take_single-requires c =     let s = c.args.job.now in
 
 pub returns-in-Refused : goal.returns-in-Refused
 unfolding turn_answer turn_table
-returns-in-Refused c =     let s = c.args.job.now in
+returns-in-Refused c = let s = c.args.job.now in
     let t = c.args.table.now in
     let w = c.args.worker in
     let F : Check → TurnAnswer = λ x. turn_answer x s t w in
@@ -48,7 +48,7 @@ returns-in-Refused c =     let s = c.args.job.now in
 
 pub returns-else-worker_count-worker : goal.returns-else-worker_count-worker
 unfolding check_turn_worker turn_answer turn_table
-returns-else-worker_count-worker c =     let s = c.args.job.now in
+returns-else-worker_count-worker c = let s = c.args.job.now in
     let t = c.args.table.now in
     let w = c.args.worker in
     let F : Check → TurnAnswer = λ x. turn_answer x s t w in

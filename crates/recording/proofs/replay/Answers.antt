@@ -16,7 +16,7 @@ unfolding replay_rows check_odd
 returns-then-log-ne0 c = record { replayed = replayed_last _ _ _ _ refl (go _ _ c.in-Accepted.is c.check_start-room.ensures (stop _ _ _ _ (differs-yes _ _ c.if-log-ne0.true))) c.no_turns-then-log-ne0.ensures; answered = answered _; on_record = on_record _ }
 
 pub replay_accepted-requires : goal.replay_accepted-requires
-replay_accepted-requires c =  let both = start-good _ _ (sym c.in-Accepted.is ∙ c.check_start-room.ensures) in record { well_formed = both.0; job_in_bounds = both.1 }
+replay_accepted-requires c = let both = start-good _ _ (sym c.in-Accepted.is ∙ c.check_start-room.ensures) in record { well_formed = both.0; job_in_bounds = both.1 }
 
 pub returns : goal.returns
 unfolding replay_rows check_odd

@@ -9,4 +9,4 @@ use Rattle.table_calls.proofs.table_replay.Goals as goal
 
 pub returns : goal.returns
 unfolding replay_check
-returns c =     let m = c.replay-answer.ensures.replayed in record { value = c.of_written.ensures ∙ ap (λ (k : Check). of_written k 0) m.check_is; table_after = m.table_is; tally_after = c.copy_counts.ensures ∙ ap (λ (ns : List ℕ). copied ns c.args.tally.now) m.tally_is }
+returns c = let m = c.replay-answer.ensures.replayed in record { value = c.of_written.ensures ∙ ap (λ (k : Check). of_written k 0) m.check_is; table_after = m.table_is; tally_after = c.copy_counts.ensures ∙ ap (λ (ns : List ℕ). copied ns c.args.tally.now) m.tally_is }

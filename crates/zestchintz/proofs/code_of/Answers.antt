@@ -12,8 +12,8 @@ refusal_code-requires c = c.requires.told _ _ c.in-Refused.is
 
 pub returns-in-Accepted : goal.returns-in-Accepted
 unfolding code_of
-returns-in-Accepted c =     coded c.requires (c.claim_count.ensures.value ∙ sym (ap (code_of _) c.in-Accepted.is))
+returns-in-Accepted c = coded c.requires (c.claim_count.ensures.value ∙ sym (ap (code_of _) c.in-Accepted.is))
 
 pub returns-in-Refused : goal.returns-in-Refused
 unfolding code_of
-returns-in-Refused c =     coded c.requires (c.refusal_code.ensures ∙ sym (ap (code_of (claims c.args.job.now)) c.in-Refused.is))
+returns-in-Refused c = coded c.requires (c.refusal_code.ensures ∙ sym (ap (code_of (claims c.args.job.now)) c.in-Refused.is))

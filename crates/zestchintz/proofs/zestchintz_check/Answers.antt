@@ -7,7 +7,7 @@ use Rattle.zestchintz.specs.Code.{Answered}
 use Rattle.zestchintz.proofs.zestchintz_check.Goals as goal
 
 pub code_of-requires : goal.code_of-requires
-code_of-requires c =     let s = c.args.job.now in
+code_of-requires c = let s = c.args.job.now in
     let short : length s < 9223372036854775808 = omega arith in
     subst⁻¹ (Answered s) c.check_job.ensures.value (job-answered s short)
 

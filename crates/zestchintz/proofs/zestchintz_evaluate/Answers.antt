@@ -14,9 +14,9 @@ evaluated-as : (s before o : List ℕ) (r r' : Check) → r ≡ r' → Evaluated
 evaluated-as s before o r r' e x = subst (λ (y : Check). Evaluated s before y o) e x
 
 pub code_of-requires : goal.code_of-requires
-code_of-requires c =     let s = c.args.job.now in
+code_of-requires c = let s = c.args.job.now in
     let short : length s < 9223372036854775808 = omega arith in
     subst⁻¹ (Answered s) c.evaluate.ensures.check (plain-answered s short _)
 
 pub returns : goal.returns
-returns c =     let e = c.evaluate.ensures in record { coded = coded_as e.check c.code_of.ensures; evaluated = evaluated-as _ _ _ _ _ e.check e }
+returns c = let e = c.evaluate.ensures in record { coded = coded_as e.check c.code_of.ensures; evaluated = evaluated-as _ _ _ _ _ e.check e }

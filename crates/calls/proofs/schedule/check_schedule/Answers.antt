@@ -1,4 +1,3 @@
-use Prim.Native.Nat.{◌-◌}
 use native.Mathlib.Omega.{arith}
 use borrow.Author.Count.{below_none, below_more}
 use lib.ListN.{get_or}
@@ -13,13 +12,13 @@ loop-i-init c = (omega arith, below_none _)
 
 pub returns-then-workers-byte : goal.returns-then-workers-byte
 unfolding check_schedule
-returns-then-workers-byte c =     let ws = c.args.schedule.now in
+returns-then-workers-byte c = let ws = c.args.schedule.now in
     let s = c.args.job.now in
     let l = c.loop-i in
     scan_at _ _ l.i _ _ (omega arith) l.invariant.1 (not_below-yes (get_or ws l.i 0) (workers s) (omega arith))
 
 pub loop-i-preserved : goal.loop-i-preserved
-loop-i-preserved c =     let ws = c.args.schedule.now in
+loop-i-preserved c = let ws = c.args.schedule.now in
     let s = c.args.job.now in
     let l = c.loop-i in
     (omega arith, below_more _ _ l.invariant.1 (not_below-no (get_or ws l.i 0) (workers s) (omega arith)))

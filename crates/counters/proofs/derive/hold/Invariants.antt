@@ -7,9 +7,9 @@ use Rattle.counters.proofs.Raising.{Taking}
 use Rattle.counters.proofs.derive.hold.Given as goal
 
 abbrev pub invariant-loop-j : goal.invariant-loop-j
-invariant-loop-j l =     (length l.count ≡ length l.initial.count) × (length l.w ≡ length l.initial.w) × (length l.queue ≡ length l.initial.queue)
+invariant-loop-j l = (length l.count ≡ length l.initial.count) × (length l.w ≡ length l.initial.w) × (length l.queue ≡ length l.initial.queue)
     × (l.end ≡ start_of l.job (l.key + 1))
     × Taking l.job l.initial.count l.initial.w l.initial.queue l.i l.bottom l.count l.w l.queue l.top l.key l.j
 
 abbrev pub decreases-loop-j : goal.decreases-loop-j
-decreases-loop-j l =     l.end - l.j
+decreases-loop-j l = l.end - l.j

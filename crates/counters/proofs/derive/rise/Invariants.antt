@@ -8,8 +8,8 @@ use Rattle.counters.specs.Counters.{Raised}
 use Rattle.counters.proofs.derive.rise.Given as goal
 
 abbrev pub invariant-loop-i : goal.invariant-loop-i
-invariant-loop-i l =     (l.i ≤ l.top) × (length l.count ≡ length l.initial.count) × (length l.w ≡ length l.initial.w) × (length l.queue ≡ length l.initial.queue)
+invariant-loop-i l = (l.i ≤ l.top) × (length l.count ≡ length l.initial.count) × (length l.w ≡ length l.initial.w) × (length l.queue ≡ length l.initial.queue)
     × Raised l.job (owners l.job) l.initial.count l.initial.w l.initial.queue 0 l.bottom l.count l.w l.queue l.i (literals l.job) l.top
 
 abbrev pub decreases-loop-i : goal.decreases-loop-i
-decreases-loop-i l =     keys l.job - l.i
+decreases-loop-i l = keys l.job - l.i

@@ -7,9 +7,9 @@ use Rattle.counters.proofs.Sinking.{Failing}
 use Rattle.counters.proofs.doubt.fall.Given as goal
 
 abbrev pub invariant-loop-j : goal.invariant-loop-j
-invariant-loop-j l =     (length l.fail ≡ length l.initial.fail) × (length l.u ≡ length l.initial.u) × (length l.list ≡ length l.initial.list)
+invariant-loop-j l = (length l.fail ≡ length l.initial.fail) × (length l.u ≡ length l.initial.u) × (length l.list ≡ length l.initial.list)
     × (l.end ≡ start_of l.job (l.key + 1))
     × Failing l.job l.k l.initial.fail l.initial.u l.initial.list l.i l.bottom l.fail l.u l.list l.top l.key l.j
 
 abbrev pub decreases-loop-j : goal.decreases-loop-j
-decreases-loop-j l =     l.end - l.j
+decreases-loop-j l = l.end - l.j

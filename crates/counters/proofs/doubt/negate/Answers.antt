@@ -1,7 +1,6 @@
 use native.Mathlib.Omega.{arith}
-use Prim.Native.Nat.{ℕ, ◌-◌}
+use Prim.Native.Nat.{ℕ}
 use mathlib.Core.Path.{◌≡◌, refl, subst}
-use mathlib.Core.Logic.{⊎_elim}
 use lib.ListN.{length-set}
 use Rattle.counters.specs.Doubts.{Negations}
 use Rattle.counters.proofs.Negating.{negations-start, negations-odd, negations_even}
@@ -27,15 +26,15 @@ pub bounds-list-n : goal.bounds-list-n
 bounds-list-n c = omega (arith, c.requires)
 
 pub loop-i-preserved : goal.loop-i-preserved
-loop-i-preserved c =     let l = c.loop-i in
+loop-i-preserved c = let l = c.loop-i in
     elim c.if-key-eq0.branch [
-      then-key-eq0 w ↦
-        rw (w.list-is, w.n-is) (
-          omega arith,
-          omega arith,
-          negations_even _ _ _ _ l.invariant.2 (omega (arith, c.requires, l.invariant)) w.if-key-eq0.true,
-          simp length-set l.invariant.3,
-        )
+      | then-key-eq0 w ↦
+          rw (w.list-is, w.n-is) (
+            omega arith,
+            omega arith,
+            negations_even _ _ _ _ l.invariant.2 (omega (arith, c.requires, l.invariant)) w.if-key-eq0.true,
+            simp length-set l.invariant.3,
+          )
       | else-key-eq0 w ↦ rw (w.list-is, w.n-is) (omega arith, omega arith, negations-odd _ _ _ _ l.invariant.2 w.if-key-eq0.false, l.invariant.3)
     ]
 
@@ -43,6 +42,6 @@ pub shape_of-list : goal.shape_of-list
 shape_of-list c = c.loop-i.invariant.3
 
 pub returns : goal.returns
-returns c =     let l = c.loop-i in
+returns c = let l = c.loop-i in
     let e : l.i ≡ c.args.top = omega arith in
     subst (λ (x : ℕ). Negations c.args.queue.now x l.list l.n) e l.invariant.2

@@ -1,5 +1,4 @@
 use native.Mathlib.Omega.{arith}
-use Prim.Native.Nat.{◌-◌}
 use mathlib.Core.Path.{refl, ◌∙◌}
 use Rattle.counters.proofs.Sinking.{sunk-start, sunk-trans, sunk-top, sunk_end}
 use Rattle.counters.proofs.doubt.sink.Goals as goal
@@ -8,16 +7,16 @@ pub loop-i-init : goal.loop-i-init
 loop-i-init c = (omega arith, sunk-start _ _ _ _ _ _ _ c.requires.falling, refl, refl, refl)
 
 pub fall-top-requires : goal.fall-top-requires
-fall-top-requires c =     let start = c.requires in record { well_formed = start.well_formed; placed = (start.placed.0, start.placed.1, omega arith); falling = c.loop-i.invariant.1.falling }
+fall-top-requires c = let start = c.requires in record { well_formed = start.well_formed; placed = (start.placed.0, start.placed.1, omega arith); falling = c.loop-i.invariant.1.falling }
 
 pub overflow_add-i : goal.overflow_add-i
-overflow_add-i c =     omega (arith, sunk-top _ _ _ _ _ _ _ _ _ _ _ _ _ c.loop-i.invariant.1, c.requires.well_formed.sized.claims_most)
+overflow_add-i c = omega (arith, sunk-top _ _ _ _ _ _ _ _ _ _ _ _ _ c.loop-i.invariant.1, c.requires.well_formed.sized.claims_most)
 
 pub loop-i-smaller : goal.loop-i-smaller
-loop-i-smaller c =     omega (arith, sunk-top _ _ _ _ _ _ _ _ _ _ _ _ _ c.loop-i.invariant.1)
+loop-i-smaller c = omega (arith, sunk-top _ _ _ _ _ _ _ _ _ _ _ _ _ c.loop-i.invariant.1)
 
 pub loop-i-preserved : goal.loop-i-preserved
-loop-i-preserved c =     let fall = c.fall-top in
+loop-i-preserved c = let fall = c.fall-top in
     let l = c.loop-i in (
       omega (arith, fall.ensures.0),
       sunk-trans _ _ _ _ _ _ _ _ _ _ _ _ _ _ _ _ _ _ _ l.invariant.1 fall.ensures.1,

@@ -1,4 +1,4 @@
-use Prim.Native.Nat.{ℕ, ◌*◌, ◌-◌, ◌<◌}
+use Prim.Native.Nat.{ℕ, ◌*◌, ◌<◌}
 use mathlib.Core.Path.{◌≡◌, refl}
 use native.Mathlib.Omega.{arith}
 use lib.ListN.{get_or, length-set}
@@ -19,6 +19,6 @@ pub shape_of-list : goal.shape_of-list
 shape_of-list c = c.loop-c.invariant.0
 
 pub returns : goal.returns
-returns c =     let A = c.args.claims in
+returns c = let A = c.args.claims in
     let all : (j : ℕ) → j < A → get_or c.loop-c.list j 0 ≡ 2 * j = λ j m. c.loop-c.invariant.2 j (omega arith) in
     (doubted_all A _ all (omega arith), listed_all A _ all)

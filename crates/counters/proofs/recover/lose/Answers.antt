@@ -1,6 +1,5 @@
-use Prim.Native.Nat.{◌*◌, ◌/◌, ◌-◌, ◌<◌}
+use Prim.Native.Nat.{◌*◌, ◌/◌, ◌<◌}
 use mathlib.Core.Path.{◌≡◌}
-use mathlib.Core.Logic.{⊎_elim}
 use native.Mathlib.Omega.{arith}
 use lib.ListN.{length, get_or}
 use Rattle.base.proofs.ByteSets.{set-yes, set-no}
@@ -11,14 +10,14 @@ use Rattle.counters.proofs.recover.lose.Goals as goal
 use Rattle.counters.proofs.recover.lose.Goals.{then-u-half-eq0, else-u-half-eq0, After-half, Then-u-half-eq0}
 
 pub loop-i-init : goal.loop-i-init
-loop-i-init c =     let pre = c.requires in
+loop-i-init c = let pre = c.requires in
     (omega arith, pre.doubted.0.ordered, losing-start _ pre.doubted.0 pre.doubted.1 pre.by_index)
 
 pub offset_bounds-list-i : goal.offset_bounds-list-i
 offset_bounds-list-i c = let d = c.requires.doubted.0 in omega (arith, queue-top d.queue, d.queue.long)
 
 pub bounds-list-i : goal.bounds-list-i
-bounds-list-i c =     let d = c.requires.doubted.0 in
+bounds-list-i c = let d = c.requires.doubted.0 in
     omega (arith, queue-top d.queue, d.queue.long)
 
 -- the key that was read is twice its claim
@@ -31,11 +30,11 @@ read c =
     doubted_key d c.loop-i.i c.loop-i.invariant.0 c.loop-i-test.true (c.half.result / 2) (omega (arith, c.half.ensures))
 
 pub bounds-u-half : goal.bounds-u-half
-bounds-u-half c =     let d = c.requires.doubted.0 in
+bounds-u-half c = let d = c.requires.doubted.0 in
     doubted-small d c.loop-i.i c.loop-i.invariant.0 c.loop-i-test.true _ (read (goal.at.bounds-u-half c).After-half)
 
 pub overflow_add-queue : goal.overflow_add-queue
-overflow_add-queue c =     let d = c.requires.doubted.0 in
+overflow_add-queue c = let d = c.requires.doubted.0 in
     omega (
       arith,
       read (goal.at.overflow_add-queue c).After-half,
@@ -60,17 +59,17 @@ pub overflow_add-top : goal.overflow_add-top
 overflow_add-top c = omega (arith, room (goal.at.overflow_add-top c).Then-u-half-eq0)
 
 pub loop-i-preserved : goal.loop-i-preserved
-loop-i-preserved c =     let d = c.requires.doubted.0 in
+loop-i-preserved c = let d = c.requires.doubted.0 in
     let on = c.loop-i-test.true in (
       omega arith,
       omega arith,
       elim c.if-u-half-eq0.branch [
-        then-u-half-eq0 w ↦
-          losing-is w.queue-is w.top-is
-          (losing_push d c.loop-i.invariant.2 c.loop-i.invariant.0 on _ (read (goal.at.loop-i-preserved c).After-half) _ (omega (arith, read (goal.at.loop-i-preserved c).After-half)) (set-no _ _ w.if-u-half-eq0.true))
+        | then-u-half-eq0 w ↦
+            losing-is w.queue-is w.top-is
+            (losing_push d c.loop-i.invariant.2 c.loop-i.invariant.0 on _ (read (goal.at.loop-i-preserved c).After-half) _ (omega (arith, read (goal.at.loop-i-preserved c).After-half)) (set-no _ _ w.if-u-half-eq0.true))
         | else-u-half-eq0 w ↦
-          losing-is w.queue-is w.top-is
-          (losing_skip d c.loop-i.invariant.2 c.loop-i.invariant.0 on _ (read (goal.at.loop-i-preserved c).After-half) (set-yes _ _ w.if-u-half-eq0.false))
+            losing-is w.queue-is w.top-is
+            (losing_skip d c.loop-i.invariant.2 c.loop-i.invariant.0 on _ (read (goal.at.loop-i-preserved c).After-half) (set-yes _ _ w.if-u-half-eq0.false))
       ],
     )
 

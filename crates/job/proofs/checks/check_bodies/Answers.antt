@@ -1,4 +1,3 @@
-use Prim.Native.Nat.{◌-◌}
 use mathlib.Core.Path.{◌≡◌, refl, ◌∙◌, ap}
 use native.Mathlib.Omega.{arith}
 use borrow.Author.Count.{below_none, below_more}
@@ -15,20 +14,20 @@ loop-i-init c = (omega arith, refl, omega arith, below_none _)
 
 pub returns-then-literals-passed : goal.returns-then-literals-passed
 unfolding check_bodies
-returns-then-literals-passed c =     let l = c.loop-i in
+returns-then-literals-passed c = let l = c.loop-i in
     halt _ _ c.refused.ensures (c.refused.ensures ∙ scan_at _ _ l.i _ _ (omega arith) l.invariant.3 (over_yes _ _ (omega arith)))
 
 pub loop-i-preserved : goal.loop-i-preserved
-loop-i-preserved c =     let l = c.loop-i in (
-      omega arith,
-      omega (arith, body_start-next c.args.job.now l.i),
-      omega arith,
-      below_more _ _ l.invariant.3 (over_no _ _ (omega arith)),
-    )
+loop-i-preserved c = let l = c.loop-i in (
+  omega arith,
+  omega (arith, body_start-next c.args.job.now l.i),
+  omega arith,
+  below_more _ _ l.invariant.3 (over_no _ _ (omega arith)),
+)
 
 pub returns-then-passed-literals : goal.returns-then-passed-literals
 unfolding check_bodies
-returns-then-passed-literals c =     let s = c.args.job.now in
+returns-then-passed-literals c = let s = c.args.job.now in
     let l = c.loop-i in
     let e : l.i ≡ rules s = omega arith in
     placed c.refused-then-passed-literals.ensures (omega arith)
@@ -36,7 +35,7 @@ returns-then-passed-literals c =     let s = c.args.job.now in
 
 pub returns : goal.returns
 unfolding check_bodies
-returns c =     let s = c.args.job.now in
+returns c = let s = c.args.job.now in
     let l = c.loop-i in
     let e : l.i ≡ rules s = omega arith in
     go _ _ refl (scan_none _ _ _ _ (λ k h. l.invariant.3 k (omega arith))) (pass _ _ _ _ (under-no _ _ (omega (arith, ap (body_start s) e))) refl)

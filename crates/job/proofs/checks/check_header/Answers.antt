@@ -19,14 +19,14 @@ check_total-total-requires c = length-least _ (length-ok (goal.at.check_total-to
 
 pub returns-in_default-total : goal.returns-in_default-total
 unfolding check_header
-returns-in_default-total c =     go _ _ refl (length-ok (goal.at.returns-in_default-total c).In-Accepted) (halt _ _ c.in_default-total.is c.check_total-total.ensures)
+returns-in_default-total c = go _ _ refl (length-ok (goal.at.returns-in_default-total c).In-Accepted) (halt _ _ c.in_default-total.is c.check_total-total.ensures)
 
 pub check_counts-counts-requires : goal.check_counts-counts-requires
 check_counts-counts-requires c = length-least _ (length-ok (goal.at.check_counts-counts-requires c).In-Accepted)
 
 pub returns-in_default-counts : goal.returns-in_default-counts
 unfolding check_header
-returns-in_default-counts c =     go _ _ refl (length-ok (goal.at.returns-in_default-counts c).In-Accepted)
+returns-in_default-counts c = go _ _ refl (length-ok (goal.at.returns-in_default-counts c).In-Accepted)
     (go _ _ c.in-Accepted-total.is c.check_total-total.ensures (halt _ _ c.in_default-counts.is c.check_counts-counts.ensures))
 
 pub check_offsets-requires : goal.check_offsets-requires
@@ -34,5 +34,5 @@ check_offsets-requires c = length-least _ (length-ok (goal.at.check_offsets-requ
 
 pub returns : goal.returns
 unfolding check_header
-returns c =     go _ _ refl (length-ok (goal.at.returns c).In-Accepted)
+returns c = go _ _ refl (length-ok (goal.at.returns c).In-Accepted)
     (go _ _ c.in-Accepted-total.is c.check_total-total.ensures (go _ _ c.in-Accepted-counts.is c.check_counts-counts.ensures c.check_offsets.ensures))

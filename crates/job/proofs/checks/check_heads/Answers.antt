@@ -1,4 +1,3 @@
-use Prim.Native.Nat.{◌-◌}
 use mathlib.Core.Path.{refl, sym, ◌∙◌}
 use native.Mathlib.Omega.{arith}
 use borrow.Author.Count.{below_none, below_more}
@@ -16,20 +15,20 @@ loop-i-init c = (omega arith, refl, below_none _)
 
 pub returns-then-claims-head : goal.returns-then-claims-head
 unfolding check_heads
-returns-then-claims-head c =     let l = c.loop-i in
+returns-then-claims-head c = let l = c.loop-i in
     c.refused.ensures ∙ scan_at _ _ l.i _ _ (omega arith) l.invariant.2 (or_first _ _ (not_below-yes _ _ (omega arith)))
 
 pub returns-then-head-before : goal.returns-then-head-before
 unfolding check_heads
-returns-then-head-before c =     let l = c.loop-i in
+returns-then-head-before c = let l = c.loop-i in
     c.refused-then-head-before.ensures ∙ scan_at _ _ l.i _ _ (omega arith) l.invariant.2 (or_second _ _ (not_below-no _ _ (omega arith)) (under-yes _ _ (omega arith)))
 
 pub loop-i-preserved : goal.loop-i-preserved
-loop-i-preserved c =     let l = c.loop-i in (
-      omega arith,
-      c.head_at-head.ensures.value ∙ sym (head_before-next _ l.i),
-      below_more _ _ l.invariant.2 (or_no _ _ (not_below-no _ _ (omega arith)) (under-no _ _ (omega arith))),
-    )
+loop-i-preserved c = let l = c.loop-i in (
+  omega arith,
+  c.head_at-head.ensures.value ∙ sym (head_before-next _ l.i),
+  below_more _ _ l.invariant.2 (or_no _ _ (not_below-no _ _ (omega arith)) (under-no _ _ (omega arith))),
+)
 
 pub returns : goal.returns
 unfolding check_heads

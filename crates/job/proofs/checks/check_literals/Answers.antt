@@ -1,6 +1,5 @@
-use Prim.Native.Nat.{ℕ, ◌-◌, ◌<◌}
+use Prim.Native.Nat.{ℕ, ◌<◌}
 use mathlib.Core.List.{List}
-use mathlib.Core.Logic.{⊎_elim}
 use mathlib.Core.Bool.{true, false}
 use mathlib.Core.Path.{◌≡◌, refl, ◌∙◌, ap}
 use native.Mathlib.Omega.{arith}
@@ -26,11 +25,11 @@ unfolding body_start
 rules-init c = (omega arith, refl, below_none _)
 
 pub overflow_add-end : goal.overflow_add-end
-overflow_add-end c =     let s = c.args.job.now in
+overflow_add-end c = let s = c.args.job.now in
     omega (arith, body-within s c.rules.i (rules s) (omega arith))
 
 pub loop-k-init : goal.loop-k-init
-loop-k-init c =     let s = c.args.job.now in
+loop-k-init c = let s = c.args.job.now in
     let r = c.rules in
     (omega arith, omega (arith, body-within s r.i (rules s) (omega arith)), r.invariant.2)
 
@@ -39,11 +38,11 @@ claim : (c : After-claim_of) → c.claim_of.result ≡ claim_of (literal_at c.ar
 claim c = claim_at _ _ c.rule_count-rules.ensures.value c.literal_at.ensures c.claim_of.ensures
 
 pub loop-k-preserved : goal.loop-k-preserved
-loop-k-preserved c =     let e = claim (goal.at.loop-k-preserved c).After-claim_of in
+loop-k-preserved c = let e = claim (goal.at.loop-k-preserved c).After-claim_of in
     (omega arith, omega arith, below_more _ _ c.loop-k.invariant.2 (not_below-no _ _ (omega arith)))
 
 pub rules-preserved : goal.rules-preserved
-rules-preserved c =     let s = c.args.job.now in
+rules-preserved c = let s = c.args.job.now in
     let i = c.rules.i in
     (omega arith, omega (arith, body_start-next s i), c.loop-k.invariant.2)
 
@@ -56,17 +55,17 @@ met : (c : Left-rules) → Met c.args.job.now c.rules-test.k
 met c =
     let s = c.args.job.now in
     elim c.rules-test.branch [
-      else-rules-test w ↦
-        let e : c.rules.i ≡ rules s = omega arith in
-        record { before-k = λ j l. c.rules.invariant.2 j (omega arith); at-k = λ l. absurd (omega (arith, ap (body_start s) e)) }
+      | else-rules-test w ↦
+          let e : c.rules.i ≡ rules s = omega arith in
+          record { before-k = λ j l. c.rules.invariant.2 j (omega arith); at-k = λ l. absurd (omega (arith, ap (body_start s) e)) }
       | then-rules-test+then-loop-k-test+then-claims-claim_of w ↦
-        let e = claim_at s w.loop-k.k c.rule_count-rules.ensures.value w.literal_at.ensures w.claim_of.ensures in
-        record { before-k = λ j l. w.loop-k.invariant.2 j (omega arith); at-k = λ l. rw w.k-is (not_below-yes _ _ (omega arith)) }
+          let e = claim_at s w.loop-k.k c.rule_count-rules.ensures.value w.literal_at.ensures w.claim_of.ensures in
+          record { before-k = λ j l. w.loop-k.invariant.2 j (omega arith); at-k = λ l. rw w.k-is (not_below-yes _ _ (omega arith)) }
     ]
 
 pub returns-then-k-literal_count : goal.returns-then-k-literal_count
 unfolding check_literals
-returns-then-k-literal_count c =     let m = met (goal.at.returns-then-k-literal_count c).Left-rules in
+returns-then-k-literal_count c = let m = met (goal.at.returns-then-k-literal_count c).Left-rules in
     placed c.refused.ensures (omega arith) ∙ scan_at _ _ c.rules-test.k _ _ (omega arith) m.before-k (m.at-k (omega arith))
 
 pub returns : goal.returns

@@ -1,4 +1,3 @@
-use Prim.Native.Nat.{◌-◌}
 use mathlib.Core.Path.{◌∙◌}
 use native.Mathlib.Omega.{arith}
 use borrow.Author.Count.{below_none, below_more}
@@ -20,20 +19,20 @@ asked c =
 
 pub returns-then-workers-question : goal.returns-then-workers-question
 unfolding check_questions
-returns-then-workers-question c =     let l = c.loop-q in
+returns-then-workers-question c = let l = c.loop-q in
     let a = asked (goal.at.returns-then-workers-question c).After-question_at-question in
     placed c.refused.ensures (omega arith)
     ∙ scan_at _ _ l.q _ _ (omega arith) l.invariant.1 (or_first _ _ (not_below-yes _ _ (omega arith)))
 
 pub returns-then-claims-question : goal.returns-then-claims-question
 unfolding check_questions
-returns-then-claims-question c =     let l = c.loop-q in
+returns-then-claims-question c = let l = c.loop-q in
     let a = asked (goal.at.returns-then-claims-question c).After-question_at-question in
     placed c.refused-then-claims-question.ensures (omega arith)
     ∙ scan_at _ _ l.q _ _ (omega arith) l.invariant.1 (or_second _ _ (not_below-no _ _ (omega arith)) (not_below-yes _ _ (omega arith)))
 
 pub loop-q-preserved : goal.loop-q-preserved
-loop-q-preserved c =     let l = c.loop-q in
+loop-q-preserved c = let l = c.loop-q in
     let a = asked (goal.at.loop-q-preserved c).After-question_at-question in
     (omega arith, below_more _ _ l.invariant.1 (or_no _ _ (not_below-no _ _ (omega arith)) (not_below-no _ _ (omega arith))))
 

@@ -1,6 +1,5 @@
-use Prim.Native.Nat.{ℕ, ◌-◌, ◌%◌}
+use Prim.Native.Nat.{ℕ, ◌%◌}
 use mathlib.Core.Path.{◌≡◌, ◌∙◌, ap}
-use mathlib.Core.Logic.{⊎_elim}
 use native.Mathlib.Omega.{arith}
 use borrow.Author.Count.{below_none, below_more}
 use Rattle.job.proofs.Literals.{literal-claim}
@@ -22,11 +21,11 @@ claim c =
     literal-claim (c.half-field.ensures.value ∙ ap (λ (m : ℕ). half s (literal_byte m k)) e) c.half-field.ensures.small
 
 pub loop-k-preserved : goal.loop-k-preserved
-loop-k-preserved c =     let l = c.loop-k in
+loop-k-preserved c = let l = c.loop-k in
     let e = claim (goal.at.loop-k-preserved c).After-half-field in (
       omega arith,
       elim c.if-highest-claim.branch [
-        then-highest-claim w ↦ below_more _ _ (λ j b. omega (arith, l.invariant.1 j b)) (omega arith)
+        | then-highest-claim w ↦ below_more _ _ (λ j b. omega (arith, l.invariant.1 j b)) (omega arith)
         | else-highest-claim w ↦ below_more _ _ (λ j b. omega (arith, l.invariant.1 j b)) (omega arith)
       ],
     )

@@ -1,4 +1,4 @@
-use Prim.Native.Nat.{ℕ, ◌+◌, ◌-◌, ◌≤◌, ◌<◌}
+use Prim.Native.Nat.{ℕ, ◌+◌, ◌≤◌, ◌<◌}
 use mathlib.Core.Path.{refl, sym, ◌∙◌, ap, subst}
 use mathlib.Core.List.{List}
 use mathlib.Core.Logic.{by_cases}
@@ -11,13 +11,13 @@ use Rattle.job.proofs.Contiguous.{starts_here, rule-there, rule-below, rule-past
 use Rattle.job.proofs.IndexEnds.{bounds-start, bounds-more, bounds-kept}
 use Rattle.job.proofs.Parts.{body_start-next, body-within}
 use Rattle.job.specs.Claims.{index_entries, Bounds}
-use Rattle.job.specs.Format.{rules, literals, body_start}
+use Rattle.job.specs.Format.{rules, body_start}
 use Rattle.job.proofs.claims.index_claims.Goals as goal
 use Rattle.job.proofs.claims.index_claims.Goals.{After-body_length_at-passed, Then-head_below}
 
 pub loop-claim-init : goal.loop-claim-init
 unfolding body_start
-loop-claim-init c =     (ap length c.no_index-index.ensures ∙ length-replicate {A = ℕ} index_entries 0, omega arith, omega arith, refl, omega arith, below_none _, below_none _, bounds-start _ c.no_index-index.ensures, λ h. absurd (omega arith), λ d a b. ap (λ (x : List ℕ). get_or x d 0) c.no_index-index.ensures ∙ get_or-replicate index_entries d 0 0 (omega arith))
+loop-claim-init c = (ap length c.no_index-index.ensures ∙ length-replicate {A = ℕ} index_entries 0, omega arith, omega arith, refl, omega arith, below_none _, below_none _, bounds-start _ c.no_index-index.ensures, λ h. absurd (omega arith), λ d a b. ap (λ (x : List ℕ). get_or x d 0) c.no_index-index.ensures ∙ get_or-replicate index_entries d 0 0 (omega arith))
 
 -- the rule that the test found
 there : (c : Then-head_below) → c.loop-claim.i < rules c.args.job.now
@@ -51,7 +51,7 @@ pub loop-claim-smaller-then-head_below : goal.loop-claim-smaller-then-head_below
 loop-claim-smaller-then-head_below c = omega (arith, there (goal.at.loop-claim-smaller-then-head_below c).Then-head_below)
 
 pub loop-claim-preserved-then-head_below : goal.loop-claim-preserved-then-head_below
-loop-claim-preserved-then-head_below c =     let s = c.args.job.now in
+loop-claim-preserved-then-head_below c = let s = c.args.job.now in
     let l = c.loop-claim in
     let h = there (goal.at.loop-claim-preserved-then-head_below c).Then-head_below in
     let next = body_start-next s l.i in (
@@ -68,7 +68,7 @@ loop-claim-preserved-then-head_below c =     let s = c.args.job.now in
     )
 
 pub loop-claim-preserved : goal.loop-claim-preserved
-loop-claim-preserved c =     let s = c.args.job.now in
+loop-claim-preserved c = let s = c.args.job.now in
     let l = c.loop-claim in
     let past = rule-past s l.claim l.i c.rule_count-rules.ensures.value c.head_below.ensures c.if-head_below.false in (
       simp length-set l.invariant.0,
@@ -84,6 +84,6 @@ loop-claim-preserved c =     let s = c.args.job.now in
     )
 
 pub returns : goal.returns
-returns c =     let l = c.loop-claim in
+returns c = let l = c.loop-claim in
     let e = l.invariant.8 (omega arith) in
     record { starts = λ d b. l.invariant.6 d (omega arith); none = λ d a b. l.invariant.9 d (omega arith) b; bounds = subst (Bounds _ l.index) e l.invariant.7; literals = claim-literals _ c.requires }

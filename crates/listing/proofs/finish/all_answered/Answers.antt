@@ -15,12 +15,12 @@ answered_at-requires c = let p = c.requires in omega (arith, p.in_range.room)
 
 pub asked_count-requires : goal.asked_count-requires
 unfolding job_of
-asked_count-requires c =     let l = c.loop-w in
+asked_count-requires c = let l = c.loop-w in
     let h : l.w < (job_of c.args.job.now).workers = omega (arith, l.invariant.within, c.loop-w-test.true, c.worker_count-workers.ensures.value) in record { w_lt_most_workers = omega (arith, h, c.requires.listed.few); w_bound = c.requires.listed.rise l.w h }
 
 pub returns-then-answered_at-asked_count : goal.returns-then-answered_at-asked_count
 unfolding job_of
-returns-then-answered_at-asked_count c =     let l = c.loop-w in
+returns-then-answered_at-asked_count c = let l = c.loop-w in
     let s = c.args.job.now in
     let t = c.args.table.now in
     let a = answered-read s t l.w c.claim_count-claims.ensures.value c.answered_at.ensures.value in
@@ -29,7 +29,7 @@ returns-then-answered_at-asked_count c =     let l = c.loop-w in
 
 pub loop-w-preserved : goal.loop-w-preserved
 unfolding job_of
-loop-w-preserved c =     let l = c.loop-w in
+loop-w-preserved c = let l = c.loop-w in
     let s = c.args.job.now in
     let t = c.args.table.now in
     let a = answered-read s t l.w c.claim_count-claims.ensures.value c.answered_at.ensures.value in

@@ -23,7 +23,7 @@ slice_bounds-check_parts-end c = sym (length-take-le _ _ c.job_end-end.ensures.1
 
 pub returns : goal.returns
 unfolding listing_check
-returns c =     let i = c.args.input.now in
+returns c = let i = c.args.input.now in
     let parts : ℕ → Check = λ end. check_job (take end i) ⨾ check_schedule (take end i) (drop end i) in
     let end = c.job_end-end.result in
     let told : c.check_parts.result ≡ parts end = c.check_parts.ensures ∙ ap (λ (s : List ℕ). check_job (take end i) ⨾ check_schedule (take end i) s) (rest end i) in

@@ -11,10 +11,10 @@ pub put_byte-e-requires : goal.put_byte-e-requires
 put_byte-e-requires c = omega (arith, length-room c.args.c (omega arith))
 
 pub put_reading-f-requires : goal.put_reading-f-requires
-put_reading-f-requires c =     omega (arith, length-room c.args.c (omega arith), name-room c.reading_of-reading.result)
+put_reading-f-requires c = omega (arith, length-room c.args.c (omega arith), name-room c.reading_of-reading.result)
 
 pub put_byte-requires : goal.put_byte-requires
-put_byte-requires c =     omega (arith, length-room c.args.c (omega arith), name-room c.reading_of-reading.result)
+put_byte-requires c = omega (arith, length-room c.args.c (omega arith), name-room c.reading_of-reading.result)
 
 pub returns : goal.returns
-returns c =     put-claim-line c.args.table.now _ (omega arith) (omega arith) c.mark_at.ensures.value c.reading_of-reading.ensures c.put_number-d.ensures c.put_byte-e.ensures c.put_reading-f.ensures c.put_byte.ensures
+returns c = put-claim-line c.args.table.now _ (omega arith) (omega arith) c.mark_at.ensures.value c.reading_of-reading.ensures c.put_number-d.ensures c.put_byte-e.ensures c.put_reading-f.ensures c.put_byte.ensures

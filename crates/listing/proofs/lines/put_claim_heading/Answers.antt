@@ -7,7 +7,7 @@ pub put_number-b-requires : goal.put_number-b-requires
 put_number-b-requires c = omega (arith, length-room c.args.claims (omega arith))
 
 pub put_byte-requires : goal.put_byte-requires
-put_byte-requires c =     omega (arith, length-room c.args.claims (omega arith))
+put_byte-requires c = omega (arith, length-room c.args.claims (omega arith))
 
 pub returns : goal.returns
-returns c =     put-heading (omega arith) (omega arith) (omega arith) c.put_claims-a.ensures c.put_number-b.ensures c.put_byte.ensures
+returns c = put-heading (omega arith) (omega arith) (omega arith) c.put_claims-a.ensures c.put_number-b.ensures c.put_byte.ensures

@@ -7,4 +7,4 @@ pub put_number-requires : goal.put_number-requires
 put_number-requires c = omega (arith, length-room c.args.n (omega arith))
 
 pub returns : goal.returns
-returns c =     put-counted (omega arith) (omega arith) c.put_byte-b.ensures c.put_number.ensures
+returns c = put-counted (omega arith) (omega arith) c.put_byte-b.ensures c.put_number.ensures

@@ -7,7 +7,7 @@ use Rattle.model.specs.Rounds.{Poised}
 use Rattle.model.proofs.alternate.alternate.Given as goal
 
 abbrev pub invariant-loop-top : goal.invariant-loop-top
-invariant-loop-top l =     ((a : Claims) × Poised l.job a l.need l.fail l.k l.u l.queue l.top)
+invariant-loop-top l = ((a : Claims) × Poised l.job a l.need l.fail l.k l.u l.queue l.top)
     × (length l.need ≡ length l.initial.need)
     × (length l.fail ≡ length l.initial.fail)
     × (length l.k ≡ length l.initial.k)
@@ -16,4 +16,4 @@ invariant-loop-top l =     ((a : Claims) × Poised l.job a l.need l.fail l.k l.u
     × (length l.list ≡ length l.initial.list)
 
 abbrev pub decreases-loop-top : goal.decreases-loop-top
-decreases-loop-top l =     count (set_of l.u) (claims l.job)
+decreases-loop-top l = count (set_of l.u) (claims l.job)

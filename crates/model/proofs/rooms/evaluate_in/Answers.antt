@@ -4,25 +4,29 @@ use Rattle.model.proofs.Written.{written-verdicts}
 use Rattle.model.proofs.rooms.evaluate_in.Goals as goal
 
 pub prepare-requires : goal.prepare-requires
-prepare-requires c =     let start = c.requires in record { well_formed = start.well_formed; room = start.unused.room }
+prepare-requires c = let start = c.requires in record { well_formed = start.well_formed; room = start.unused.room }
 
 pub alternate-requires : goal.alternate-requires
-alternate-requires c =     let p = c.prepare.ensures in
+alternate-requires c = let p = c.prepare.ensures in
     let start = c.requires in
-    let unused = start.unused in record { well_formed = start.well_formed; placed = (p.placed, p.ends); blank_u = (
-          record { counts = p.fails; empty = unused.no_u; size = unused.size_u; room = unused.queue_room },
-          record {
-            counts = p.needs;
-            empty = unused.no_k;
-            size = unused.size_k;
-            size_u = unused.size_u;
-            room = unused.queue_room;
-            list_room = unused.list_room;
-          },
-        ) }
+    let unused = start.unused in record {
+      well_formed = start.well_formed;
+      placed = (p.placed, p.ends);
+      blank_u = (
+        record { counts = p.fails; empty = unused.no_u; size = unused.size_u; room = unused.queue_room },
+        record {
+          counts = p.needs;
+          empty = unused.no_k;
+          size = unused.size_k;
+          size_u = unused.size_u;
+          room = unused.queue_room;
+          list_room = unused.list_room;
+        },
+      );
+    }
 
 pub write-requires : goal.write-requires
-write-requires c =     let a = c.alternate in
+write-requires c = let a = c.alternate in
     let start = c.requires in
     omega (arith, a.auto.k, start.unused.size_k, start.job_in_bounds)
 
@@ -57,6 +61,6 @@ pub shape_of-out : goal.shape_of-out
 shape_of-out c = c.write.auto.out
 
 pub returns : goal.returns
-returns c =     let a = c.alternate in
+returns c = let a = c.alternate in
     written-verdicts c.args.job.now _ _ c.args.out.now (a.auto.k ∙ c.requires.unused.size_k) a.ensures.k_after a.ensures.u_after
     c.write.ensures

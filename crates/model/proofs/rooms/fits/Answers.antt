@@ -8,4 +8,4 @@ pub returns-then-rules-rule_count : goal.returns-then-rules-rule_count
 returns-then-rules-rule_count c = within-no
 
 pub returns : goal.returns
-returns c =     within-yes c.claim_count.ensures.value c.rule_count.ensures.value c.literal_count.ensures.value c.if-claims-claim_count.false c.if-rules-rule_count.false
+returns c = within-yes c.claim_count.ensures.value c.rule_count.ensures.value c.literal_count.ensures.value c.if-claims-claim_count.false c.if-rules-rule_count.false

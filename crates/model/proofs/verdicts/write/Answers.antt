@@ -1,4 +1,3 @@
-use Prim.Native.Nat.{◌-◌}
 use mathlib.Core.Path.{refl}
 use native.Mathlib.Omega.{arith}
 use lib.ListN.{length-set}
@@ -9,7 +8,7 @@ pub loop-c-init : goal.loop-c-init
 loop-c-init c = (refl, omega arith, c.requires, written_start _ _)
 
 pub loop-c-preserved : goal.loop-c-preserved
-loop-c-preserved c =     let l = c.loop-c in
+loop-c-preserved c = let l = c.loop-c in
     (simp length-set l.invariant.0, omega arith, l.invariant.2, written-more _ _ _ _ _ l.invariant.3 c.byte_of.ensures (omega arith))
 
 pub shape_of-out : goal.shape_of-out

@@ -9,7 +9,7 @@ use Rattle.model.specs.Output.{judged_byte}
 use Rattle.model.proofs.verdicts.write.Given as goal
 
 abbrev pub invariant-loop-c : goal.invariant-loop-c
-invariant-loop-c l =     (length l.out ≡ length l.initial.out)
+invariant-loop-c l = (length l.out ≡ length l.initial.out)
     × (l.c ≤ length l.k)
     × (length l.k ≤ length l.initial.out)
     × (l.out ≡ span (judged_byte (set_of l.k) (set_of l.u)) 0 l.c ++ drop l.c l.initial.out)

@@ -1,4 +1,3 @@
-use Prim.Native.Nat.{◌-◌}
 use mathlib.Core.Path.{sym, ◌∙◌}
 use native.Mathlib.Omega.{arith}
 use Rattle.parts.proofs.LiteralsRead.{literal-byte, literal_is, literal-place}
@@ -13,7 +12,7 @@ pub literal_at-requires : goal.literal_at-requires
 literal_at-requires c = let p = c.requires in literal-byte p.0.job p.1 p.2 c.loop-k-test.true
 
 pub inside-requires : goal.inside-requires
-inside-requires c =     let p = c.requires in
+inside-requires c = let p = c.requires in
     literal-place p.0.job p.1 p.2 c.loop-k-test.true c.literal_at.ensures p.0
 
 pub overflow_add-n : goal.overflow_add-n
@@ -26,13 +25,13 @@ pub loop-k-smaller : goal.loop-k-smaller
 loop-k-smaller c = omega (arith, c.loop-k-test.true)
 
 pub loop-k-preserved : goal.loop-k-preserved
-loop-k-preserved c =     let p = c.requires in
+loop-k-preserved c = let p = c.requires in
     let is = literal_is p.0.job p.1 p.2 c.loop-k-test.true c.literal_at.ensures in
     elim c.if-inside.branch [
-      then-inside w ↦ rw w.n-is (counting_in c.loop-k.invariant c.loop-k-test.true is (sym c.inside.ensures ∙ w.if-inside.true))
+      | then-inside w ↦ rw w.n-is (counting_in c.loop-k.invariant c.loop-k-test.true is (sym c.inside.ensures ∙ w.if-inside.true))
       | else-inside w ↦ rw w.n-is (counting_out c.loop-k.invariant c.loop-k-test.true is (sym c.inside.ensures ∙ w.if-inside.false))
     ]
 
 pub returns : goal.returns
-returns c =     let a = c.loop-k.invariant in
+returns c = let a = c.loop-k.invariant in
     (counting_end a c.loop-k-test.false, counting-few a c.requires.2)

@@ -7,13 +7,13 @@ pub returns-then-number-eq0 : goal.returns-then-number-eq0
 returns-then-number-eq0 c = put_out _ _ c.claim_of.ensures c.half-number.ensures.value _ _ c.if-number-eq0.true
 
 pub put_half-requires : goal.put_half-requires
-put_half-requires c =     omega (arith, c.requires.literal_in_bounds_2, put-length c.args.place.now c.args.literal c.claim_of.ensures c.half-number.ensures.value c.if-number-eq0.false)
+put_half-requires c = omega (arith, c.requires.literal_in_bounds_2, put-length c.args.place.now c.args.literal c.claim_of.ensures c.half-number.ensures.value c.if-number-eq0.false)
 
 pub put_half-requires-in-Negated : goal.put_half-requires-in-Negated
-put_half-requires-in-Negated c =     omega (arith, c.requires.literal_in_bounds_2, put-length c.args.place.now c.args.literal c.claim_of.ensures c.half-number.ensures.value c.if-number-eq0.false)
+put_half-requires-in-Negated c = omega (arith, c.requires.literal_in_bounds_2, put-length c.args.place.now c.args.literal c.claim_of.ensures c.half-number.ensures.value c.if-number-eq0.false)
 
 pub returns-in-Plain : goal.returns-in-Plain
-returns-in-Plain c =     put-plain _ _ c.claim_of.ensures c.half-number.ensures.value c.if-number-eq0.false c.in-Plain.is c.put_half.ensures
+returns-in-Plain c = put-plain _ _ c.claim_of.ensures c.half-number.ensures.value c.if-number-eq0.false c.in-Plain.is c.put_half.ensures
 
 pub returns-in-Negated : goal.returns-in-Negated
-returns-in-Negated c =     put-negated _ _ c.claim_of.ensures c.half-number.ensures.value c.if-number-eq0.false c.in-Negated.is c.put_half-in-Negated.ensures
+returns-in-Negated c = put-negated _ _ c.claim_of.ensures c.half-number.ensures.value c.if-number-eq0.false c.in-Negated.is c.put_half-in-Negated.ensures

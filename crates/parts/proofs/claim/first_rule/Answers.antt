@@ -1,4 +1,3 @@
-use Prim.Native.Nat.{◌-◌}
 use native.Mathlib.Omega.{arith}
 use Rattle.parts.proofs.Seeking.{seeking-start, seeking_byte, seeking-up, seeking_down, seeking_end}
 use Rattle.parts.proofs.claim.first_rule.Goals as goal

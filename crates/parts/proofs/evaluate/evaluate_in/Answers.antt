@@ -13,7 +13,7 @@ pub slice_bounds-evaluate_accepted-end-2 : goal.slice_bounds-evaluate_accepted-e
 slice_bounds-evaluate_accepted-end-2 c = let p = c.requires in front_length p.lent.0 c.put_part-n.ensures p.values_len.1
 
 pub evaluate_accepted-requires : goal.evaluate_accepted-requires
-evaluate_accepted-requires c =     let p = c.requires in
+evaluate_accepted-requires c = let p = c.requires in
     let w = c.put_part-n.ensures in
     (front-good p.lent.0 w, omega (arith, front-claims p.lent.0 w, p.values_len.0))
 

@@ -17,4 +17,4 @@ pub put_header-requires : goal.put_header-requires
 put_header-requires c = record { questions_bound = omega (arith, header-small _ _ _ _ _ c.requires.members_in_bounds c.put_claims-literals_at.ensures c.put_claims-end.ensures); in_bounds = header-fits _ _ _ _ _ c.requires.members_in_bounds c.put_claims-literals_at.ensures c.put_claims-end.ensures }
 
 pub returns : goal.returns
-returns c =     part_put _ _ _ _ _ c.requires.members_in_bounds c.put_claims-literals_at.ensures c.put_claims-end.ensures c.put_header.ensures
+returns c = part_put _ _ _ _ _ c.requires.members_in_bounds c.put_claims-literals_at.ensures c.put_claims-end.ensures c.put_header.ensures

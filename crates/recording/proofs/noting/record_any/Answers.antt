@@ -7,9 +7,9 @@ use Rattle.turn.proofs.Rooms.{front-room}
 use Rattle.recording.proofs.noting.record_any.Goals as goal
 
 pub slice_bounds-record_in-end : goal.slice_bounds-record_in-end
-slice_bounds-record_in-end c =     sym (front_long most_claims c.no_numbers-place.ensures (omega (arith, c.claim_count-claims.ensures.value, c.requires.ready.0.job.sized.claims_most)))
+slice_bounds-record_in-end c = sym (front_long most_claims c.no_numbers-place.ensures (omega (arith, c.claim_count-claims.ensures.value, c.requires.ready.0.job.sized.claims_most)))
 
 pub record_in-requires : goal.record_in-requires
-record_in-requires c =     let p = c.requires in
+record_in-requires c = let p = c.requires in
     let n = c.claim_count-claims.ensures.value in
     let room = front-room most_claims c.no_numbers-place.ensures (omega (arith, n, p.ready.0.job.sized.claims_most)) n c.no_numbers-members.ensures in record { ready = p.ready; named = p.named; schedule_in_bounds = p.schedule_in_bounds; room = room }

@@ -7,9 +7,9 @@ use Rattle.turn.proofs.Rooms.{front-room}
 use Rattle.recording.proofs.replaying.follow_any.Goals as goal
 
 pub slice_bounds-follow_in-end : goal.slice_bounds-follow_in-end
-slice_bounds-follow_in-end c =     sym (front_long most_claims c.no_numbers-place.ensures (omega (arith, c.claim_count-claims.ensures.value, c.requires.0.job.sized.claims_most)))
+slice_bounds-follow_in-end c = sym (front_long most_claims c.no_numbers-place.ensures (omega (arith, c.claim_count-claims.ensures.value, c.requires.0.job.sized.claims_most)))
 
 pub follow_in-requires : goal.follow_in-requires
-follow_in-requires c =     let p = c.requires in
+follow_in-requires c = let p = c.requires in
     let n = c.claim_count-claims.ensures.value in
     let room = front-room most_claims c.no_numbers-place.ensures (omega (arith, n, p.0.job.sized.claims_most)) n c.no_numbers-members.ensures in record { ready = p; room = room }

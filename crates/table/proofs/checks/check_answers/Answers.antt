@@ -1,5 +1,3 @@
-use Prim.Native.Nat.{◌-◌}
-use mathlib.Core.Bool.{false}
 use mathlib.Core.Path.{refl, ◌∙◌}
 use native.Mathlib.Omega.{arith}
 use borrow.Author.Count.{below_none, below_more}
@@ -16,7 +14,7 @@ pub answer_at-requires : goal.answer_at-requires
 answer_at-requires c = let z = sizes c.args.job.now in omega arith
 
 pub returns-then-answer_at-gt-MOST_VALUE : goal.returns-then-answer_at-gt-MOST_VALUE
-returns-then-answer_at-gt-MOST_VALUE c =     let a = c.args in
+returns-then-answer_at-gt-MOST_VALUE c = let a = c.args in
     let z = sizes a.job.now in
     let l = c.loop-k in
     placed c.bad_word.ensures (omega arith)
@@ -24,11 +22,11 @@ returns-then-answer_at-gt-MOST_VALUE c =     let a = c.args in
     (word_bad a.table.now (omega arith) c.answer_at.ensures.value refl c.if-answer_at-gt-MOST_VALUE.true)
 
 pub loop-k-preserved : goal.loop-k-preserved
-loop-k-preserved c =     let a = c.args in
+loop-k-preserved c = let a = c.args in
     let z = sizes a.job.now in
     let l = c.loop-k in
     (omega arith, below_more _ _ l.invariant.1 (word_good a.table.now (omega arith) c.answer_at.ensures.value refl c.if-answer_at-gt-MOST_VALUE.false))
 
 pub returns : goal.returns
-returns c =     let z = sizes c.args.job.now in
+returns c = let z = sizes c.args.job.now in
     scan_none _ _ _ _ (λ k l. c.loop-k.invariant.1 k (omega arith))

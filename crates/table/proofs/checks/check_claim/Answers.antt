@@ -12,7 +12,7 @@ mark_at-mark-requires c = omega arith
 
 pub returns-then-is_bad_mark : goal.returns-then-is_bad_mark
 unfolding check_claim
-returns-then-is_bad_mark c =     let a = c.args in
+returns-then-is_bad_mark c = let a = c.args in
     let j = job_of a.job.now in
     let t = a.table.now in
     placed c.bad_word.ensures c.mark_word.ensures
@@ -24,7 +24,7 @@ cursor_at-requires c = omega arith
 
 pub returns-then-most_passed-cursor_at : goal.returns-then-most_passed-cursor_at
 unfolding check_claim
-returns-then-most_passed-cursor_at c =     let a = c.args in
+returns-then-most_passed-cursor_at c = let a = c.args in
     let j = job_of a.job.now in
     let t = a.table.now in
     let m = c.mark_at-mark.ensures.value in
@@ -38,7 +38,7 @@ number_at-requires c = omega arith
 
 pub returns-then-is_bad_number : goal.returns-then-is_bad_number
 unfolding check_claim
-returns-then-is_bad_number c =     let a = c.args in
+returns-then-is_bad_number c = let a = c.args in
     let j = job_of a.job.now in
     let t = a.table.now in
     let m = c.mark_at-mark.ensures.value in
@@ -49,7 +49,7 @@ returns-then-is_bad_number c =     let a = c.args in
 
 pub returns : goal.returns
 unfolding check_claim
-returns c =     let a = c.args in
+returns c = let a = c.args in
     let j = job_of a.job.now in
     let t = a.table.now in
     let m = c.mark_at-mark.ensures.value in

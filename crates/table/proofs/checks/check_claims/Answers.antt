@@ -1,4 +1,3 @@
-use Prim.Native.Nat.{◌-◌}
 use mathlib.Core.Path.{sym, ◌∙◌}
 use native.Mathlib.Omega.{arith}
 use borrow.Author.Count.{below_none, below_more}
@@ -22,11 +21,11 @@ check_claim-claim-requires c = let p = c.requires in record { well_formed = p.we
 
 pub returns-in_default : goal.returns-in_default
 unfolding job_of
-returns-in_default c =     let l = c.loop-c in
+returns-in_default c = let l = c.loop-c in
     each_at _ _ l.c (omega arith) l.invariant.1 c.in_default.is c.check_claim-claim.ensures
 
 pub loop-c-preserved : goal.loop-c-preserved
-loop-c-preserved c =     let l = c.loop-c in
+loop-c-preserved c = let l = c.loop-c in
     (omega arith, below_more _ _ l.invariant.1 (sym c.in-Accepted.is ∙ c.check_claim-claim.ensures))
 
 pub returns : goal.returns

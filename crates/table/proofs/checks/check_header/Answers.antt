@@ -1,5 +1,3 @@
-use Prim.Native.Nat.{◌-◌}
-use mathlib.Core.Bool.{false}
 use mathlib.Core.Path.{◌∙◌}
 use native.Mathlib.Omega.{arith}
 use borrow.Author.Count.{below_none, below_more}
@@ -11,12 +9,12 @@ pub loop-i-init : goal.loop-i-init
 loop-i-init c = (omega arith, below_none _)
 
 pub returns-then-table-i : goal.returns-then-table-i
-returns-then-table-i c =     let t = c.args.table.now in
+returns-then-table-i c = let t = c.args.table.now in
     let l = c.loop-i in
     c.bad_word.ensures ∙ scan_at _ _ l.i _ (λ i. i) (omega arith) l.invariant.1 (header_bad _ t l.i c.header_words-header.ensures c.if-table-i.true)
 
 pub loop-i-preserved : goal.loop-i-preserved
-loop-i-preserved c =     let t = c.args.table.now in
+loop-i-preserved c = let t = c.args.table.now in
     let l = c.loop-i in
     (omega arith, below_more _ _ l.invariant.1 (header-good _ t l.i c.header_words-header.ensures c.if-table-i.false))
 

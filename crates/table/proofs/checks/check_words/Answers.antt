@@ -12,17 +12,17 @@ returns-in_default-opened c = go _ _ c.in-Accepted.is c.check_header-header.ensu
 
 pub returns-in_default-claims : goal.returns-in_default-claims
 unfolding check_words
-returns-in_default-claims c =     go _ _ c.in-Accepted.is c.check_header-header.ensures
+returns-in_default-claims c = go _ _ c.in-Accepted.is c.check_header-header.ensures
     (go _ _ c.in-Accepted-opened.is c.check_opened-opened.ensures (halt _ _ c.in_default-claims.is c.check_claims-claims.ensures))
 
 pub returns-in_default-workers : goal.returns-in_default-workers
 unfolding check_words
-returns-in_default-workers c =     go _ _ c.in-Accepted.is c.check_header-header.ensures
+returns-in_default-workers c = go _ _ c.in-Accepted.is c.check_header-header.ensures
     (go _ _ c.in-Accepted-opened.is c.check_opened-opened.ensures
     (go _ _ c.in-Accepted-claims.is c.check_claims-claims.ensures (halt _ _ c.in_default-workers.is c.check_workers-workers.ensures)))
 
 pub returns : goal.returns
 unfolding check_words
-returns c =     go _ _ c.in-Accepted.is c.check_header-header.ensures
+returns c = go _ _ c.in-Accepted.is c.check_header-header.ensures
     (go _ _ c.in-Accepted-opened.is c.check_opened-opened.ensures
     (go _ _ c.in-Accepted-claims.is c.check_claims-claims.ensures (go _ _ c.in-Accepted-workers.is c.check_workers-workers.ensures c.check_answers.ensures)))

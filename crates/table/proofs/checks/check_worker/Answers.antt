@@ -21,7 +21,7 @@ awaited_at-requires c = omega arith
 
 pub returns-then-claims-awaited_at : goal.returns-then-claims-awaited_at
 unfolding check_worker job_of
-returns-then-claims-awaited_at c =     let t = c.args.table.now in
+returns-then-claims-awaited_at c = let t = c.args.table.now in
     placed c.bad_word.ensures (omega arith)
     ∙ stop _ _ _ _ (word_bad t (omega arith) c.awaited_at.ensures.value c.claim_count-claims.ensures.value c.if-claims-awaited_at.true)
 
@@ -31,7 +31,7 @@ answered_at-requires c = omega arith
 
 pub returns-then-word-answered_at : goal.returns-then-word-answered_at
 unfolding check_worker job_of
-returns-then-word-answered_at c =     let t = c.args.table.now in
+returns-then-word-answered_at c = let t = c.args.table.now in
     let n = c.word.ensures.value ∙ c.requires.counted.counts c.args.w (omega arith) in
     placed c.bad_word-then-word-answered_at.ensures (omega arith)
     ∙ pass _ _ _ _ (word_good t (omega arith) c.awaited_at.ensures.value c.claim_count-claims.ensures.value c.if-claims-awaited_at.false)
@@ -60,13 +60,13 @@ due c =
     c.word-found.ensures.value ∙ c.requires.searched.all c.args.w (few c)
 
 pub returns-then-newest_at-found : goal.returns-then-newest_at-found
-returns-then-newest_at-found c =     let a = c.args in
+returns-then-newest_at-found c = let a = c.args in
     let z = sizes a.job.now in
     let p : newest_at c.claim_count-claims.result a.w ≡ newest_word (job_of a.job.now) a.w = omega arith in
     placed c.bad_word-then-newest_at-found.ensures (c.newest_word.ensures ∙ p)
     ∙ past (goal.at.returns-then-newest_at-found c).Else-word-answered_at (stop _ _ _ _ (word-other a.table.now p c.newest_at.ensures.value (due (goal.at.returns-then-newest_at-found c).After-word-found) c.if-newest_at-found.true))
 
 pub returns : goal.returns
-returns c =     let a = c.args in
+returns c = let a = c.args in
     let z = sizes a.job.now in
     past (goal.at.returns c).Else-word-answered_at (pass _ _ _ _ (word_same a.table.now (omega arith) c.newest_at.ensures.value (due (goal.at.returns c).After-word-found) (omega (arith, c.if-newest_at-found.false))) refl)

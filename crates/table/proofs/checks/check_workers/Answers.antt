@@ -1,4 +1,4 @@
-use Prim.Native.Nat.{ℕ, ◌-◌}
+use Prim.Native.Nat.{ℕ}
 use mathlib.Core.Path.{◌≡◌, sym, ◌∙◌, subst}
 use mathlib.Core.List.{List}
 use native.Mathlib.Omega.{arith}
@@ -21,15 +21,15 @@ unfolding job_of
 searched s {t} {ns} e r = subst (λ (a : ℕ). Searched a t ns) e r
 
 pub check_worker-worker-requires : goal.check_worker-worker-requires
-check_worker-worker-requires c =     let p = c.requires in record { well_formed = p.well_formed; counted = p.counted; searched = searched c.args.job.now c.claim_count.ensures.value c.newest_claims-newests.ensures; job_in_bounds = p.job_in_bounds; w_bound = omega arith }
+check_worker-worker-requires c = let p = c.requires in record { well_formed = p.well_formed; counted = p.counted; searched = searched c.args.job.now c.claim_count.ensures.value c.newest_claims-newests.ensures; job_in_bounds = p.job_in_bounds; w_bound = omega arith }
 
 pub returns-in_default : goal.returns-in_default
 unfolding job_of
-returns-in_default c =     let l = c.loop-w in
+returns-in_default c = let l = c.loop-w in
     each_at _ _ l.w (omega arith) l.invariant.1 c.in_default.is c.check_worker-worker.ensures
 
 pub loop-w-preserved : goal.loop-w-preserved
-loop-w-preserved c =     let l = c.loop-w in
+loop-w-preserved c = let l = c.loop-w in
     (omega arith, below_more _ _ l.invariant.1 (sym c.in-Accepted.is ∙ c.check_worker-worker.ensures))
 
 pub returns : goal.returns

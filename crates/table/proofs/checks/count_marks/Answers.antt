@@ -1,5 +1,3 @@
-use Prim.Native.Nat.{◌-◌}
-use mathlib.Core.Logic.{⊎_elim}
 use mathlib.Core.Bool.{not}
 use mathlib.Core.Path.{◌≡◌, sym, ◌∙◌, ap}
 use native.Mathlib.Omega.{arith}
@@ -23,17 +21,17 @@ pub overflow_add-n : goal.overflow_add-n
 overflow_add-n c = omega (arith, count_le (λ d. not (fresh c.args.table.now d)) c.loop-c.c)
 
 pub loop-c-preserved : goal.loop-c-preserved
-loop-c-preserved c =     let t = c.args.table.now in
+loop-c-preserved c = let t = c.args.table.now in
     let l = c.loop-c in
     let e = c.mark_at.ensures.value in (
       omega arith,
       elim c.if-mark_at-ne0.branch [
-        then-mark_at-ne0 w ↦ omega (arith, count_yes (λ d. not (fresh t d)) l.c (marked-yes t l.c e w.if-mark_at-ne0.true))
+        | then-mark_at-ne0 w ↦ omega (arith, count_yes (λ d. not (fresh t d)) l.c (marked-yes t l.c e w.if-mark_at-ne0.true))
         | else-mark_at-ne0 w ↦ omega (arith, count_no (λ d. not (fresh t d)) l.c (marked-no t l.c e w.if-mark_at-ne0.false))
       ],
     )
 
 pub returns : goal.returns
 unfolding marked job_of
-returns c =     let e : c.loop-c.c ≡ claims_of c.args.job.now = omega arith in
+returns c = let e : c.loop-c.c ≡ claims_of c.args.job.now = omega arith in
     c.loop-c.invariant.1 ∙ ap (count (λ d. not (fresh c.args.table.now d))) e

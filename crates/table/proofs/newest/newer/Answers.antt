@@ -11,7 +11,7 @@ returns-then-best-eq0 c = add-one _ ∙ sym (pick_true _ _ _ (eq-eqb _ _ c.if-be
 
 pub returns-then-is_newer : goal.returns-then-is_newer
 unfolding newer
-returns-then-is_newer c =     add-one _ ∙ sym (pick-false _ _ _ (ne_eqb _ _ c.if-best-eq0.false) ∙ pick_true _ _ _ (sym c.is_newer.ensures ∙ c.if-is_newer.true))
+returns-then-is_newer c = add-one _ ∙ sym (pick-false _ _ _ (ne_eqb _ _ c.if-best-eq0.false) ∙ pick_true _ _ _ (sym c.is_newer.ensures ∙ c.if-is_newer.true))
 
 pub returns : goal.returns
 unfolding newer

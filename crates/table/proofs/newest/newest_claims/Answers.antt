@@ -1,7 +1,6 @@
 use Prim.Native.Nat.{◌-◌, ◌≤◌}
 use mathlib.Core.Logic.{inl, inr}
 use native.Mathlib.Omega.{arith}
-use borrow.Author.Tests.{leb-true, leb-false}
 use Rattle.job.specs.Job.{most_workers}
 use Rattle.table.proofs.SearchAll.{sweeping_none, sweeping_best, sweeping_more, sweeping_same, sweeping_all}
 use Rattle.table.proofs.newest.newest_claims.Goals as goal
@@ -18,7 +17,7 @@ pub bounds-found-mark : goal.bounds-found-mark
 bounds-found-mark c = omega (arith, c.if-mark-le-MOST_WORKERS.true)
 
 pub newer-best-requires : goal.newer-best-requires
-newer-best-requires c =     let l = c.loop-c in
+newer-best-requires c = let l = c.loop-c in
     let k = c.mark_at-mark.result in
     omega (arith, (l.invariant.each (k - 1) (omega (arith, few (goal.at.newer-best-requires c).Then-mark-le-MOST_WORKERS))).most)
 
@@ -34,10 +33,10 @@ pub bounds-found-mark-then-mark-le-MOST_WORKERS : goal.bounds-found-mark-then-ma
 bounds-found-mark-then-mark-le-MOST_WORKERS c = omega (arith, few (goal.at.bounds-found-mark-then-mark-le-MOST_WORKERS c).Then-mark-le-MOST_WORKERS)
 
 pub loop-c-preserved-then-mark-le-MOST_WORKERS : goal.loop-c-preserved-then-mark-le-MOST_WORKERS
-loop-c-preserved-then-mark-le-MOST_WORKERS c =     sweeping_more c.loop-c.invariant c.loop-c-test.true c.mark_at-mark.ensures.value c.if-mark-gt0.true (few (goal.at.loop-c-preserved-then-mark-le-MOST_WORKERS c).Then-mark-le-MOST_WORKERS) c.word.ensures.value c.newer-best.ensures
+loop-c-preserved-then-mark-le-MOST_WORKERS c = sweeping_more c.loop-c.invariant c.loop-c-test.true c.mark_at-mark.ensures.value c.if-mark-gt0.true (few (goal.at.loop-c-preserved-then-mark-le-MOST_WORKERS c).Then-mark-le-MOST_WORKERS) c.word.ensures.value c.newer-best.ensures
 
 pub loop-c-preserved : goal.loop-c-preserved
-loop-c-preserved c =     sweeping_same c.loop-c.invariant c.loop-c-test.true c.mark_at-mark.ensures.value
+loop-c-preserved c = sweeping_same c.loop-c.invariant c.loop-c-test.true c.mark_at-mark.ensures.value
     (λ w l e. elim c.else-mark-gt0.either [ inl h ↦ omega (arith, h.1) | inr h ↦ omega arith ])
 
 pub returns : goal.returns

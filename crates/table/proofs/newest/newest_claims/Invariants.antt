@@ -1,4 +1,3 @@
-use Prim.Native.Nat.{◌-◌}
 use Rattle.table.proofs.SearchAll.{Sweeping}
 use Rattle.table.proofs.newest.newest_claims.Given as goal
 

@@ -1,4 +1,3 @@
-use Prim.Native.Nat.{◌-◌}
 use Rattle.table.proofs.Searching.{Swept}
 use Rattle.table.specs.Layout.{owned}
 use Rattle.table.proofs.newest.newest_owned.Given as goal

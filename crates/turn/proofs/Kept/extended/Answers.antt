@@ -18,7 +18,7 @@ pub returns-then-place-b-ne0 : goal.returns-then-place-b-ne0
 returns-then-place-b-ne0 c = there-keeps _ (job_ok _ c.requires.ready.0.job) _ _ _ _ _ _ c.requires.lacking c.if-place-b-ne0.true
 
 pub gather-count-requires : goal.gather-count-requires
-gather-count-requires c =     let p = c.requires.lacking in record { ready = c.requires.ready.0; claim_bound = (c.requires.ready.2, placed-no _ _ c.if-place-b-ne0.false); gathered = p.gathered; leading = lacking-leads _ (job_ok _ c.requires.ready.0.job) _ _ _ _ _ _ p }
+gather-count-requires c = let p = c.requires.lacking in record { ready = c.requires.ready.0; claim_bound = (c.requires.ready.2, placed-no _ _ c.if-place-b-ne0.false); gathered = p.gathered; leading = lacking-leads _ (job_ok _ c.requires.ready.0.job) _ _ _ _ _ _ p }
 
 pub returns : goal.returns
-returns c =     joined_keeps _ (job_ok _ c.requires.ready.0.job) _ _ _ c.args.self _ _ c.requires.lacking c.if-place-c-eq0.false (omega (arith, c.requires.ready.2, job-claims c.args.job.now)) c.gather-count.ensures
+returns c = joined_keeps _ (job_ok _ c.requires.ready.0.job) _ _ _ c.args.self _ _ c.requires.lacking c.if-place-c-eq0.false (omega (arith, c.requires.ready.2, job-claims c.args.job.now)) c.gather-count.ensures

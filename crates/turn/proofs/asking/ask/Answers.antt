@@ -27,7 +27,7 @@ use Rattle.turn.proofs.asking.ask.Goals as goal
 use Rattle.turn.proofs.asking.ask.Goals.{After-question_at-question}
 
 pub question_at-question-requires : goal.question_at-question-requires
-question_at-question-requires c =     let a = c.args in
+question_at-question-requires c = let a = c.args in
     let p = c.requires in
     omega (arith, header-room _ p.well_formed.0, c.literal_count.ensures.value, c.rule_count.ensures.value, place-low (job_of a.job.now) a.w a.n p.n_value.1, p.n_value.2, (sizes a.job.now).questions_are, p.well_formed.0)
 
@@ -66,25 +66,25 @@ pub mark_at-mark-requires : goal.mark_at-mark-requires
 mark_at-mark-requires c = omega (arith, sure (goal.at.mark_at-mark-requires c).After-question_at-question)
 
 pub set_answer-requires : goal.set_answer-requires
-set_answer-requires c =     let p = c.requires in
+set_answer-requires c = let p = c.requires in
     omega (arith, sure (goal.at.set_answer-requires c).After-question_at-question, place-low (job_of c.args.job.now) c.args.w c.args.n p.n_value.1, p.n_value.2, (sizes c.args.job.now).questions_are, c.claim_count-claims.ensures.value, c.worker_count-workers.ensures.value, c.value_of.ensures, c.mark_at-mark.ensures.small)
 
 pub overflow_add-n : goal.overflow_add-n
-overflow_add-n c =     omega (arith, sure ((goal.at.overflow_add-n c).After-question_at-question))
+overflow_add-n c = omega (arith, sure ((goal.at.overflow_add-n c).After-question_at-question))
 
 -- storing a word keeps the length
 longer : (t u : List ℕ) (i v : ℕ) → u ≡ set t i v → length u ≡ length t
 longer t u i v e = ap length e ∙ length-set t i v
 
 pub set_answered-requires : goal.set_answered-requires
-set_answered-requires c =     let a = c.args in
+set_answered-requires c = let a = c.args in
     let p = c.requires in
     let m = c.claim_count-claims.ensures.value in
     let z = longer a.table.now c.set_answer.new.table (answer_at c.claim_count-claims.result c.worker_count-workers.result a.k) c.value_of.result c.set_answer.ensures in
     omega (arith, sure ((goal.at.set_answered-requires c).After-question_at-question), p.well_formed.2, m, z)
 
 pub returns-then-is_complete : goal.returns-then-is_complete
-returns-then-is_complete c place members k =     let a = c.args in
+returns-then-is_complete c place members k = let a = c.args in
     let s = a.job.now in
     let t = a.table.now in
     let p = c.requires in
@@ -97,26 +97,26 @@ returns-then-is_complete c place members k =     let a = c.args in
     (answer_keeps _ (job_ok _ p.well_formed.0) _ _ _ _ k _ _ _ _ _ (c.claim_count-claims.ensures.value ∙ sym (sizes s).claims_are) (c.set_answered.ensures ∙ ap (λ (x : List ℕ). set x (answered_at c.claim_count-claims.result a.w) (a.n + 1)) one))
 
 pub open_newest-requires : goal.open_newest-requires
-open_newest-requires c =     let a = c.args in
+open_newest-requires c = let a = c.args in
     let p = c.requires in
     let n = c.claim_count-claims.ensures.value in
     let r = sure (goal.at.open_newest-requires c).After-question_at-question in record { c_lt_claims = (omega (arith, r, n), omega (arith, r, n), omega (arith, r, n, p.well_formed.2), omega (arith, r, p.well_formed.2)); table_bound = (fresh_left a.job.now a.table.now p.well_formed.0 p.well_formed.1 c.question_at-question.result.claim r.low (sym c.mark_at-mark.ensures.value ∙ c.if-mark-eq0.true), kept_low a.job.now a.table.now p.well_formed.3 a.w p.well_formed.2 n) }
 
 pub returns-then-mark-eq0 : goal.returns-then-mark-eq0
-returns-then-mark-eq0 c place members k =     let a = c.args in
+returns-then-mark-eq0 c place members k = let a = c.args in
     let p = c.requires in
     done_as (c.after-then-mark-eq0.ensures ∙ ap {B = Taken} (λ (x : Kept). record { kind = Opened; kept = x }) c.forgotten.ensures)
     (puts-opened a.job.now a.table.now a.w a.n a.k c.question_at-question.result c.mark_at-mark.result p.well_formed.0 p.well_formed.3 p.well_formed.2 p.n_value.0 p.n_value.1 p.n_value.2 (asked (goal.at.returns-then-mark-eq0 c).After-question_at-question) c.mark_at-mark.ensures.value c.if-mark-eq0.true p.well_formed.1 c.claim_count-claims.ensures.value c.open_newest.ensures)
     (open_forgets _ (job_ok _ p.well_formed.0) _ _ _ _ k _ _ (omega (arith, (sizes a.job.now).claims_are, (sure (goal.at.returns-then-mark-eq0 c).After-question_at-question).low)) (sym c.mark_at-mark.ensures.value ∙ c.if-mark-eq0.true) ((p.well_formed.1.claim _ (omega (arith, (sizes a.job.now).claims_are, (sure (goal.at.returns-then-mark-eq0 c).After-question_at-question).low))).unread (sym c.mark_at-mark.ensures.value ∙ c.if-mark-eq0.true)) (omega (arith, p.well_formed.2, p.well_formed.0.sized.workers_most)) (omega (arith, p.well_formed.1.room)) _ (c.claim_count-claims.ensures.value ∙ sym (sizes a.job.now).claims_are) c.open_newest.ensures)
 
 pub overflow_add-claim : goal.overflow_add-claim
-overflow_add-claim c =     omega (arith, sure ((goal.at.overflow_add-claim c).After-question_at-question))
+overflow_add-claim c = omega (arith, sure ((goal.at.overflow_add-claim c).After-question_at-question))
 
 pub set_awaited-requires : goal.set_awaited-requires
-set_awaited-requires c =     omega (arith, sure ((goal.at.set_awaited-requires c).After-question_at-question), c.requires.well_formed.2, c.claim_count-claims.ensures.value)
+set_awaited-requires c = omega (arith, sure ((goal.at.set_awaited-requires c).After-question_at-question), c.requires.well_formed.2, c.claim_count-claims.ensures.value)
 
 pub returns : goal.returns
-returns c place members k =     let a = c.args in
+returns c place members k = let a = c.args in
     let p = c.requires in
     done_as c.after-2.ensures
     (made-from c.set_awaited.ensures

@@ -22,14 +22,14 @@ more : {j : Job} {index : List ℕ} → Listed j index → (w : ℕ) → w < j.w
 more k w l e h = omega (arith, k.counts w l)
 
 pub answered_at-n-requires : goal.answered_at-n-requires
-answered_at-n-requires c =     omega (arith, room c.args.job.now c.args.table.now c.requires.well_formed.1, c.requires.well_formed.2)
+answered_at-n-requires c = omega (arith, room c.args.job.now c.args.table.now c.requires.well_formed.1, c.requires.well_formed.2)
 
 pub asked_count-requires : goal.asked_count-requires
-asked_count-requires c =     let p = c.requires in
+asked_count-requires c = let p = c.requires in
     let l = its c.args.job.now c.args.w p.well_formed.2 in record { w_lt_most_workers = omega (arith, l, p.listed.few); w_bound = p.listed.rise c.args.w l }
 
 pub returns-then-asked_count-n : goal.returns-then-asked_count-n
-returns-then-asked_count-n c place members k =     let a = c.args in
+returns-then-asked_count-n c place members k = let a = c.args in
     let p = c.requires in
     let s = a.job.now in
     done_as c.after.ensures
@@ -38,12 +38,12 @@ returns-then-asked_count-n c place members k =     let a = c.args in
     (k)
 
 pub asked_at-requires : goal.asked_at-requires
-asked_at-requires c =     let a = c.args in
+asked_at-requires c = let a = c.args in
     let p = c.requires in
     let l = its a.job.now a.w p.well_formed.2 in record { w_lt_most_workers = omega (arith, l, p.listed.few); n_bound = listed-room p.listed a.w _ l (more p.listed a.w l c.asked_count.ensures c.if-asked_count-n.false) }
 
 pub ask-requires : goal.ask-requires
-ask-requires c =     let a = c.args in
+ask-requires c = let a = c.args in
     let p = c.requires in
     let s = a.job.now in
     let l = its s a.w p.well_formed.2 in

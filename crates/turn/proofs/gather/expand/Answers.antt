@@ -1,7 +1,7 @@
-use Prim.Native.Nat.{◌<◌, ◌-◌}
+use Prim.Native.Nat.{◌<◌}
 use mathlib.Core.Path.{◌≡◌, sym, ◌∙◌, ap}
 use native.Mathlib.Omega.{arith}
-use borrow.Author.Tests.{leb-false, leb-true, not-true, not-false}
+use borrow.Author.Tests.{leb-false, leb-true}
 use Rattle.job.specs.declared.Cursor.{Cursor}
 use Rattle.job.specs.declared.Literal.{Literal}
 use Rattle.job.specs.Format.{literal_at}
@@ -26,12 +26,12 @@ pub current-literal-requires : goal.current-literal-requires
 current-literal-requires c = omega (arith, left (goal.at.current-literal-requires c).In-loop-cursor, c.loop-cursor.invariant.room.bytes)
 
 pub visit-top-requires : goal.visit-top-requires
-visit-top-requires c =     let x = c.loop-cursor.invariant in
+visit-top-requires c = let x = c.loop-cursor.invariant in
     let e = meets (goal.at.visit-top-requires c).After-claim_of in
     (omega (arith, e, expanding-below _ _ _ _ _ _ _ _ x (left (goal.at.visit-top-requires c).In-loop-cursor)), omega (arith, x.room.words, x.room.fits.long), expanding-fits _ _ _ _ _ _ _ _ x)
 
 pub moved_on-cursor-requires : goal.moved_on-cursor-requires
-moved_on-cursor-requires c =     let l = c.loop-cursor in
+moved_on-cursor-requires c = let l = c.loop-cursor in
     let h = left (goal.at.moved_on-cursor-requires c).In-loop-cursor in
     (omega (arith, l.invariant.room.words, expanding-below _ _ _ _ _ _ _ _ l.invariant h, l.invariant.room.fits.long, ap claim_of c.current-literal.ensures), h, l.invariant.room.most)
 
@@ -42,14 +42,14 @@ moves c =
     c.moved_on-cursor.ensures ∙ ap (λ (y : Literal). onward c.args.index.now c.args.table.now y l.cursor) c.current-literal.ensures
 
 pub loop-cursor-smaller : goal.loop-cursor-smaller
-loop-cursor-smaller c =     let l = c.loop-cursor in
+loop-cursor-smaller c = let l = c.loop-cursor in
     let h = left (goal.at.loop-cursor-smaller c).In-loop-cursor in
     let e = ap (λ (x : Cursor). x.at) (moves (goal.at.loop-cursor-smaller c).After-moved_on-cursor) in
     let z = ap (λ (x : Cursor). x.end) (moves (goal.at.loop-cursor-smaller c).After-moved_on-cursor) in
     omega (arith, h, expanding_less _ _ _ _ _ _ _ _ l.invariant h)
 
 pub loop-cursor-preserved : goal.loop-cursor-preserved
-loop-cursor-preserved c =     let l = c.loop-cursor in
+loop-cursor-preserved c = let l = c.loop-cursor in
     expanding_more _ _ _ _ _ _ _ _ l.invariant _ _ _ (left (goal.at.loop-cursor-preserved c).In-loop-cursor) (meets (goal.at.loop-cursor-preserved c).After-claim_of) c.visit-top.ensures (moves (goal.at.loop-cursor-preserved c).After-moved_on-cursor)
 
 pub shape_of-place : goal.shape_of-place

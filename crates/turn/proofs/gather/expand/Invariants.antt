@@ -4,7 +4,7 @@ use Rattle.turn.proofs.Worklist.{Expanding}
 use Rattle.turn.proofs.gather.expand.Given as goal
 
 abbrev pub invariant-loop-cursor : goal.invariant-loop-cursor
-invariant-loop-cursor l =     Expanding l.job l.rules l.index l.table l.initial.cursor (record { place = l.initial.place; members = l.initial.members; top = l.initial.top }) l.cursor (record { place = l.place; members = l.members; top = l.top })
+invariant-loop-cursor l = Expanding l.job l.rules l.index l.table l.initial.cursor (record { place = l.initial.place; members = l.initial.members; top = l.initial.top }) l.cursor (record { place = l.place; members = l.members; top = l.top })
 
 abbrev pub decreases-loop-cursor : goal.decreases-loop-cursor
 decreases-loop-cursor l = l.cursor.end - l.cursor.at

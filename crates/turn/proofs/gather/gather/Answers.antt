@@ -1,4 +1,4 @@
-use Prim.Native.Nat.{◌-◌, ◌<◌}
+use Prim.Native.Nat.{◌<◌}
 use mathlib.Core.Path.{refl, sym, subst, ◌∙◌}
 use native.Mathlib.Omega.{arith}
 use lib.ListN.{length, length-set}
@@ -64,12 +64,12 @@ pub bounds-members-i-in-loop-i : goal.bounds-members-i-in-loop-i
 bounds-members-i-in-loop-i c = (within (goal.at.bounds-members-i-in-loop-i c).In-loop-i).2
 
 pub passed_over-from-requires : goal.passed_over-from-requires
-passed_over-from-requires c =     let r = c.requires.ready in
+passed_over-from-requires c = let r = c.requires.ready in
     let l = low (goal.at.passed_over-from-requires c).After-half in
     (passed-few _ _ _ r _ l, passed_words _ _ _ r _ l, passed_start _ _ _ r _ l)
 
 pub expand-top-requires : goal.expand-top-requires
-expand-top-requires c =     let f = c.loop-i.invariant.1.fits in
+expand-top-requires c = let f = c.loop-i.invariant.1.fits in
     passed-room _ _ _ c.requires.ready _ (low (goal.at.expand-top-requires c).After-half) _ c.rule_count-rules.ensures.value _ c.passed_over-from.ensures _ _ f.long f
 
 pub overflow_add-i : goal.overflow_add-i
@@ -79,7 +79,7 @@ pub loop-i-smaller : goal.loop-i-smaller
 loop-i-smaller c = omega (arith, within (goal.at.loop-i-smaller c).In-loop-i)
 
 pub loop-i-preserved : goal.loop-i-preserved
-loop-i-preserved c =     let l = c.loop-i in
+loop-i-preserved c = let l = c.loop-i in
     let x = c.expand-top in
     (x.auto.members ∙ l.invariant.0, gathering_more _ _ _ c.requires.ready _ _ _ _ l.invariant.1 c.loop-i-test.true _ c.half.ensures.value _ c.rule_count-rules.ensures.value _ c.passed_over-from.ensures _ x.ensures)
 

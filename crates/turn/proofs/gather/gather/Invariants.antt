@@ -8,7 +8,7 @@ use Rattle.turn.proofs.Gathering.{Gathering}
 use Rattle.turn.proofs.gather.gather.Given as goal
 
 abbrev pub invariant-loop-i : goal.invariant-loop-i
-invariant-loop-i l =     (length l.members ≡ length l.initial.members) × Gathering l.job l.table (set_of l.initial.place) l.claim l.i (record { place = l.place; members = l.members; top = l.top })
+invariant-loop-i l = (length l.members ≡ length l.initial.members) × Gathering l.job l.table (set_of l.initial.place) l.claim l.i (record { place = l.place; members = l.members; top = l.top })
 
 abbrev pub decreases-loop-i : goal.decreases-loop-i
 decreases-loop-i l = claims l.job - l.i

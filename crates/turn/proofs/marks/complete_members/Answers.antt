@@ -1,4 +1,3 @@
-use Prim.Native.Nat.{◌-◌}
 use native.Mathlib.Omega.{arith}
 use Rattle.turn.proofs.Marking.{giving_none, giving_more, giving_all}
 use Rattle.turn.proofs.marks.complete_members.Goals as goal
@@ -16,7 +15,7 @@ pub mark_of_value-requires : goal.mark_of_value-requires
 mark_of_value-requires c = omega (arith, c.byte-value.ensures.small)
 
 pub set_mark-requires : goal.set_mark-requires
-set_mark-requires c =     let p = c.requires.0 in
+set_mark-requires c = let p = c.requires.0 in
     let l = c.loop-i-test.true in
     omega (arith, c.half.ensures.value, p.words _ l, c.loop-i.invariant.long, c.mark_of_value.ensures, c.byte-value.ensures.small)
 

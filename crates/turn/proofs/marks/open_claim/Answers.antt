@@ -19,14 +19,14 @@ longer : (t u : List ℕ) (i v : ℕ) → u ≡ set t i v → length u ≡ lengt
 longer t u i v e = ap length e ∙ length-set t i v
 
 pub set_mark-requires : goal.set_mark-requires
-set_mark-requires c =     omega (arith, longer c.args.table.now c.set_opened.new.table opened_word (c.opened_in-n.result + 1) c.set_opened.ensures, c.requires)
+set_mark-requires c = omega (arith, longer c.args.table.now c.set_opened.new.table opened_word (c.opened_in-n.result + 1) c.set_opened.ensures, c.requires)
 
 pub set_cursor-requires : goal.set_cursor-requires
-set_cursor-requires c =     omega (arith, longer c.args.table.now c.set_opened.new.table opened_word (c.opened_in-n.result + 1) c.set_opened.ensures, longer c.set_opened.new.table c.set_mark.new.table (mark_word c.args.c) (c.args.w + 1) c.set_mark.ensures, c.requires)
+set_cursor-requires c = omega (arith, longer c.args.table.now c.set_opened.new.table opened_word (c.opened_in-n.result + 1) c.set_opened.ensures, longer c.set_opened.new.table c.set_mark.new.table (mark_word c.args.c) (c.args.w + 1) c.set_mark.ensures, c.requires)
 
 pub set_number-requires : goal.set_number-requires
-set_number-requires c =     omega (arith, longer c.args.table.now c.set_opened.new.table opened_word (c.opened_in-n.result + 1) c.set_opened.ensures, longer c.set_opened.new.table c.set_mark.new.table (mark_word c.args.c) (c.args.w + 1) c.set_mark.ensures, longer c.set_mark.new.table c.set_cursor.new.table (cursor_word c.args.c) 0 c.set_cursor.ensures, c.requires, c.opened_in-n.ensures.value)
+set_number-requires c = omega (arith, longer c.args.table.now c.set_opened.new.table opened_word (c.opened_in-n.result + 1) c.set_opened.ensures, longer c.set_opened.new.table c.set_mark.new.table (mark_word c.args.c) (c.args.w + 1) c.set_mark.ensures, longer c.set_mark.new.table c.set_cursor.new.table (cursor_word c.args.c) 0 c.set_cursor.ensures, c.requires, c.opened_in-n.ensures.value)
 
 pub returns : goal.returns
-returns c =     let a = c.args in
+returns c = let a = c.args in
     opens a.table.now a.w a.c c.opened_in-n.result c.opened_in-n.ensures.value c.set_opened.ensures c.set_mark.ensures c.set_cursor.ensures c.set_number.ensures

@@ -9,7 +9,7 @@ pub current-requires : goal.current-requires
 current-requires c = let p = c.requires in omega (arith, c.rule_count.ensures.value, p.1, p.0.sized.size)
 
 pub returns : goal.returns
-returns c =     let s = c.args.job.now in
+returns c = let s = c.args.job.now in
     let k = c.args.cursor in
     let p = c.requires in
     let e = c.claim_of.ensures ∙ (ap claim_of c.current.ensures ∙ ap (λ (m : ℕ). claim_of (literal_at s m k.at)) c.rule_count.ensures.value) in

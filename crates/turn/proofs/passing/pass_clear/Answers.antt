@@ -54,7 +54,7 @@ pub over-cursor-requires : goal.over-cursor-requires
 over-cursor-requires c = let p = c.requires in omega (arith, p.c_bound.0, p.ready.job.sized.claims_most, c.cursor_at.ensures.small)
 
 pub next_claim-b-requires : goal.next_claim-b-requires
-next_claim-b-requires c =     let a = c.args in
+next_claim-b-requires c = let a = c.args in
     let p = c.requires in
     (p.ready.job, next-there a.job.now a.index.now p.ready.job p.ready.indexed a.c p.c_bound.0 _ p.c_value.1 c.cursor_at.ensures.value c.over-cursor.ensures)
 
@@ -62,57 +62,57 @@ pub mark_at-mark-requires : goal.mark_at-mark-requires
 mark_at-mark-requires c = omega (arith, room _ _ c.requires.ready.table, c.next_claim-b.ensures.1)
 
 pub advanced-requires : goal.advanced-requires
-advanced-requires c =     let a = c.args in
+advanced-requires c = let a = c.args in
     let p = c.requires in
     next_left a.job.now a.index.now p.ready.job p.ready.indexed a.c p.c_bound.0 _ p.c_value.1 c.cursor_at.ensures.value c.over-cursor.ensures
 
 pub move_to-requires : goal.move_to-requires
-move_to-requires c =     let a = c.args in
+move_to-requires c = let a = c.args in
     let p = c.requires in record { c_lt_most_claims = (omega (arith, p.c_bound.0, p.ready.job.sized.claims_most), omega (arith, room _ _ p.ready.table, p.c_bound.0)); c_bound = moved-low a.job.now a.index.now p.ready.job p.ready.indexed a.c p.c_bound.0 _ p.c_value.1 c.cursor_at.ensures.value c.over-cursor.ensures c.advanced.ensures }
 
 pub returns-then-is_complete : goal.returns-then-is_complete
-returns-then-is_complete c =     let p = c.requires in
+returns-then-is_complete c = let p = c.requires in
     let h = complete-yes c.is_complete.ensures c.if-is_complete.true in
     done_as c.after.ensures (pass-complete (facts (goal.at.returns-then-is_complete c).After-move_to) p.ready.newests h) (passed-complete (facts (goal.at.returns-then-is_complete c).After-move_to) p.ready _ _ _ p.keeps h)
 
 pub extended-kept-requires : goal.extended-kept-requires
-extended-kept-requires c =     let p = c.requires in
+extended-kept-requires c = let p = c.requires in
     let g = facts (goal.at.extended-kept-requires c).After-move_to in record { ready = (moved_ready g p.ready, g.claim, g.low); lacking = passed_lacks g p.ready _ _ _ p.keeps (open-b (goal.at.extended-kept-requires c).Else-is_complete) }
 
 pub overflow_add-w : goal.overflow_add-w
 overflow_add-w c = omega (arith, small (goal.at.overflow_add-w c).After-move_to)
 
 pub returns-then-mark-w : goal.returns-then-mark-w
-returns-then-mark-w c =     done_as c.after-then-mark-w.ensures (pass-own (facts (goal.at.returns-then-mark-w c).After-move_to) c.requires.ready.newests (open-b (goal.at.returns-then-mark-w c).Else-is_complete) c.if-mark-w.true) c.extended-kept.ensures
+returns-then-mark-w c = done_as c.after-then-mark-w.ensures (pass-own (facts (goal.at.returns-then-mark-w c).After-move_to) c.requires.ready.newests (open-b (goal.at.returns-then-mark-w c).Else-is_complete) c.if-mark-w.true) c.extended-kept.ensures
 
 pub claim_count-claims-requires : goal.claim_count-claims-requires
 claim_count-claims-requires c = header-room _ c.requires.ready.job
 
 pub open_newest-requires : goal.open_newest-requires
-open_newest-requires c =     let a = c.requires.ready in
+open_newest-requires c = let a = c.requires.ready in
     let g = facts (goal.at.open_newest-requires c).After-move_to in
     let n = c.claim_count-claims.ensures.value in
     let r = room _ _ a.table in
     let q = a.job.sized in record { c_lt_claims = (omega (arith, n, g.low), omega (arith, n, q.claims_most), omega (arith, n, r, g.worker, moved_length g), omega (arith, q.workers_most, g.worker)); table_bound = (moved-opened g a.job a.table c.if-mark-eq0.true, kept_low _ _ (moved-kept g a.newests) _ g.worker n) }
 
 pub returns-then-mark-eq0 : goal.returns-then-mark-eq0
-returns-then-mark-eq0 c =     let a = c.requires.ready in
+returns-then-mark-eq0 c = let a = c.requires.ready in
     let n = c.claim_count-claims.ensures.value in
     done_as (c.after-then-mark-eq0.ensures ∙ ap {B = Taken} (λ (x : Kept). record { kind = Opened; kept = x }) c.forgotten.ensures)
     (pass-fresh (facts (goal.at.returns-then-mark-eq0 c).After-move_to) a.newests (open-b (goal.at.returns-then-mark-eq0 c).Else-is_complete) c.if-mark-w.false n c.if-mark-eq0.true a.job a.table c.open_newest.ensures)
     (passed-opens (facts (goal.at.returns-then-mark-eq0 c).After-move_to) a _ _ _ c.extended-kept.ensures c.if-mark-eq0.true (small (goal.at.returns-then-mark-eq0 c).After-move_to) _ n c.open_newest.ensures)
 
 pub meets_worker-requires : goal.meets_worker-requires
-meets_worker-requires c =     let a = c.requires.ready in
+meets_worker-requires c = let a = c.requires.ready in
     let g = facts (goal.at.meets_worker-requires c).After-move_to in
     (a.job, moved_range g a.job a.table, moved-owner g a.job a.table c.if-mark-eq0.false (open-b (goal.at.meets_worker-requires c).Else-is_complete))
 
 pub take_over-taken-requires : goal.take_over-taken-requires
-take_over-taken-requires c =     let a = c.requires in
+take_over-taken-requires c = let a = c.requires in
     let g = facts (goal.at.take_over-taken-requires c).After-move_to in record { ready = moved_ready g a.ready; c_bound = (g.claim, g.worker, moved-own g); keeps = c.extended-kept.ensures }
 
 pub returns-then-meets_worker : goal.returns-then-meets_worker
-returns-then-meets_worker c =     let a = c.requires.ready in
+returns-then-meets_worker c = let a = c.requires.ready in
     done_as c.after-then-meets_worker.ensures
     (pass-took (facts (goal.at.returns-then-meets_worker c).After-move_to) a.newests (open-b (goal.at.returns-then-meets_worker c).Else-is_complete) c.if-mark-w.false c.claim_count-claims.ensures.value c.if-mark-eq0.false c.meets_worker.ensures c.if-meets_worker.true c.take_over-taken.ensures.table_after)
     c.take_over-taken.ensures.keeps_2
@@ -121,12 +121,12 @@ pub overflow_add-b : goal.overflow_add-b
 overflow_add-b c = omega (arith, c.requires.ready.job.sized.claims_most, c.next_claim-b.ensures.1)
 
 pub set_awaited-requires : goal.set_awaited-requires
-set_awaited-requires c =     let a = c.requires.ready in
+set_awaited-requires c = let a = c.requires.ready in
     let g = facts (goal.at.set_awaited-requires c).After-move_to in
     omega (arith, room _ _ a.table, a.job.sized.claims_most, g.low, g.worker, moved_length g, c.claim_count-claims.ensures.value)
 
 pub returns : goal.returns
-returns c =     let s = c.args.job.now in
+returns c = let s = c.args.job.now in
     let a = c.requires.ready in
     let n = c.claim_count-claims.ensures.value in
     done_as c.after-2.ensures

@@ -22,7 +22,7 @@ words : (c : After-reaching-kept) → workers_from (job_of c.args.job.now).claim
 words c = omega (arith, c.requires.ready.table.room)
 
 pub take_members-requires : goal.take_members-requires
-take_members-requires c =     let a = c.requires in
+take_members-requires c = let a = c.requires in
     (kept-places _ (job_ok _ a.ready.job) _ _ _ _ c.reaching-kept.ensures.0 (omega (arith, a.ready.job.sized.claims_most, (sizes c.args.job.now).claims_are)) (words (goal.at.take_members-requires c).After-reaching-kept), omega (arith, a.c_bound.1, a.ready.job.sized.workers_most))
 
 pub claim_count-requires : goal.claim_count-requires
@@ -32,15 +32,18 @@ pub worker_count-requires : goal.worker_count-requires
 worker_count-requires c = header-room _ c.requires.ready.job
 
 pub keep_newest-requires : goal.keep_newest-requires
-keep_newest-requires c =     let a = c.requires.ready in
+keep_newest-requires c = let a = c.requires.ready in
     omega (arith, room _ _ a.table, a.job.sized.claims_most, a.job.sized.workers_most, c.worker_count.ensures.value, c.claim_count.ensures.value, c.take_members.ensures.long)
 
 pub returns : goal.returns
-returns c =     let s = c.args.job.now in
+returns c = let s = c.args.job.now in
     let r = c.reaching-kept in
     let m = c.take_members.ensures in
     let n = c.claim_count.ensures.value in
-    let J = job_ok s c.requires.ready.job in record { table_after = c.keep_newest.ensures
+    let J = job_ok s c.requires.ready.job in record {
+      table_after = c.keep_newest.ensures
           ∙ (ap₂ (λ (x y : ℕ). with_newest x y c.take_members.new.table) n c.worker_count.ensures.value
-          ∙ ap (with_newest (claims s) (workers s)) (took-marks _ J _ _ _ _ r.ensures.0 _ r.ensures.1 _ (words (goal.at.returns c).After-reaching-kept) m)); keeps_2 = subst⁻¹ (λ (x : Kept). Keeps (job_of s) c.keep_newest.new.table x r.new.place r.new.members) c.forgotten.ensures
-          (took-keeps _ J _ _ _ _ r.ensures.0 c.args.c r.ensures.1 c.args.w (words (goal.at.returns c).After-reaching-kept) m (omega (arith, eqb-true (mark c.args.table.now c.args.c) (c.args.w + 1) c.requires.c_bound.2, c.requires.c_bound.1, c.requires.ready.job.sized.workers_most)) (omega (arith, c.requires.c_bound.1, c.requires.ready.job.sized.workers_most)) _ (n ∙ sym (sizes s).claims_are) c.keep_newest.ensures) }
+          ∙ ap (with_newest (claims s) (workers s)) (took-marks _ J _ _ _ _ r.ensures.0 _ r.ensures.1 _ (words (goal.at.returns c).After-reaching-kept) m));
+      keeps_2 = subst⁻¹ (λ (x : Kept). Keeps (job_of s) c.keep_newest.new.table x r.new.place r.new.members) c.forgotten.ensures
+          (took-keeps _ J _ _ _ _ r.ensures.0 c.args.c r.ensures.1 c.args.w (words (goal.at.returns c).After-reaching-kept) m (omega (arith, eqb-true (mark c.args.table.now c.args.c) (c.args.w + 1) c.requires.c_bound.2, c.requires.c_bound.1, c.requires.ready.job.sized.workers_most)) (omega (arith, c.requires.c_bound.1, c.requires.ready.job.sized.workers_most)) _ (n ∙ sym (sizes s).claims_are) c.keep_newest.ensures);
+    }

@@ -1,4 +1,3 @@
-use Prim.Native.Nat.{◌-◌}
 use native.Mathlib.Omega.{arith}
 use Rattle.turn.proofs.Sweeps.{owning_none, owning_more, owning-not, owning_all}
 use Rattle.turn.proofs.remaining.all_owned.Goals as goal
@@ -10,7 +9,7 @@ pub bounds-members-i : goal.bounds-members-i
 bounds-members-i c = omega (arith, c.requires.0.many)
 
 pub mark_at-requires : goal.mark_at-requires
-mark_at-requires c =     let p = c.requires.0 in
+mark_at-requires c = let p = c.requires.0 in
     let l = c.loop-i-test.true in
     omega (arith, c.half.ensures.value, p.few _ l, p.words _ l)
 

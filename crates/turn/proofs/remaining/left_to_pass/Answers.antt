@@ -7,11 +7,11 @@ use Rattle.turn.specs.Ready.{passed_in}
 use Rattle.turn.proofs.remaining.left_to_pass.Goals as goal
 
 pub returns-then-mark_at-w : goal.returns-then-mark_at-w
-returns-then-mark_at-w c =     let a = c.args in
+returns-then-mark_at-w c = let a = c.args in
     let t = a.table.now in
     and_off (owned t a.w a.c) (not (passed_in a.index.now t a.c)) (owned-no t a.w a.c c.mark_at.ensures.value c.if-mark_at-w.true)
 
 pub returns : goal.returns
-returns c =     let a = c.args in
+returns c = let a = c.args in
     let t = a.table.now in
     and-on (owned t a.w a.c) (not (passed_in a.index.now t a.c)) (owned-yes t a.w a.c c.mark_at.ensures.value c.if-mark_at-w.false) (ap not c.passed_all.ensures)

@@ -1,5 +1,3 @@
-use Prim.Native.Nat.{◌-◌}
-use mathlib.Core.Logic.{⊎_elim}
 use native.Mathlib.Omega.{arith}
 use Rattle.turn.proofs.Sweeps.{swept_none, swept_more, swept_same, swept-low, swept_all}
 use Rattle.turn.proofs.remaining.newest_left.Goals as goal
@@ -12,12 +10,12 @@ pub bounds-members-i : goal.bounds-members-i
 bounds-members-i c = omega (arith, c.requires.0.many)
 
 pub left_to_pass-requires : goal.left_to_pass-requires
-left_to_pass-requires c =     let p = c.requires.0 in
+left_to_pass-requires c = let p = c.requires.0 in
     let l = c.loop-i-test.true in
     omega (arith, c.half-c.ensures.value, p.few _ l, p.words _ l)
 
 pub newer-best-requires : goal.newer-best-requires
-newer-best-requires c =     let p = c.requires.0 in
+newer-best-requires c = let p = c.requires.0 in
     let l = c.loop-i-test.true in
     let b = swept-low c.loop-i.invariant p l in
     omega (arith, c.half-c.ensures.value, p.few _ l, p.words _ l, b.few, b.words)
@@ -26,12 +24,12 @@ pub loop-i-smaller : goal.loop-i-smaller
 loop-i-smaller c = omega (arith, c.loop-i-test.true)
 
 pub loop-i-preserved : goal.loop-i-preserved
-loop-i-preserved c =     let s = c.loop-i.invariant in
+loop-i-preserved c = let s = c.loop-i.invariant in
     let l = c.loop-i-test.true in
     let e = c.half-c.ensures.value in
     let f = c.left_to_pass.ensures in
     elim c.if-left_to_pass.branch [
-      then-left_to_pass x ↦ swept_more s l e f x.if-left_to_pass.true x.newer-best.ensures x.best-is
+      | then-left_to_pass x ↦ swept_more s l e f x.if-left_to_pass.true x.newer-best.ensures x.best-is
       | else-left_to_pass x ↦ swept_same s l e f x.if-left_to_pass.false x.best-is
     ]
 

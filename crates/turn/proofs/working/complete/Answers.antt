@@ -30,11 +30,11 @@ pub claim_count-requires : goal.claim_count-requires
 claim_count-requires c = header-room _ c.requires.lent.0.job
 
 pub seek_newest-requires : goal.seek_newest-requires
-seek_newest-requires c =     let p = c.requires in
+seek_newest-requires c = let p = c.requires in
     omega (arith, c.claim_count.ensures.value, p.w_bound, p.lent.0.job.sized.claims_most, p.lent.0.job.sized.workers_most, room _ _ p.lent.0.table, c.complete_in.ensures.long)
 
 pub returns : goal.returns
-returns c =     let m = c.complete_in in
+returns c = let m = c.complete_in in
     let n = c.claim_count.ensures.value ∙ sym (sizes c.args.job.now).claims_are in
     record {
       marks = m.new.table;

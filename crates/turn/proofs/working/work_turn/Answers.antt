@@ -1,8 +1,8 @@
-use Prim.Native.Nat.{◌-◌, ◌≤◌, ◌<◌}
+use Prim.Native.Nat.{◌≤◌, ◌<◌}
 use mathlib.Core.Path.{◌≡◌, sym, ◌∙◌, ap, subst⁻¹}
 use mathlib.Core.Bool.{false}
 use native.Mathlib.Omega.{arith}
-use borrow.Author.Tests.{not-true, eq-eqb}
+use borrow.Author.Tests.{eq-eqb}
 use lib.ListN.{length}
 use lib.Seq.{length-take-le}
 use Rattle.job.specs.Format.{job_of}
@@ -42,12 +42,12 @@ pub passed_all-requires : goal.passed_all-requires
 passed_all-requires c = let p = c.requires in omega (arith, p.n_bound.0, p.ready.job.sized.claims_most, p.ready.table.room, (sizes c.args.job.now).claims_are)
 
 pub pass_turn-requires : goal.pass_turn-requires
-pass_turn-requires c =     let a = c.args in
+pass_turn-requires c = let a = c.args in
     let p = c.requires in
     let x = first_left a.job.now a.index.now a.table.now p.ready a.w a.n p.n_bound.0 p.n_bound.2 (left (goal.at.pass_turn-requires c).Then-not-passed_all) in record { ready = p.ready; c_bound = (p.n_bound.0, p.n_bound.1); c_value = (eq-eqb _ _ x.own, x.some); keeps = p.keeps }
 
 pub returns-then-not-passed_all : goal.returns-then-not-passed_all
-returns-then-not-passed_all c =     let a = c.args in
+returns-then-not-passed_all c = let a = c.args in
     let p = c.requires in
     done_through (first_passes a.job.now a.index.now a.table.now p.ready a.w a.n p.n_bound.0 p.n_bound.2 (left (goal.at.returns-then-not-passed_all c).Then-not-passed_all)) c.pass_turn.ensures
 
@@ -58,7 +58,7 @@ pub chosen-left-requires : goal.chosen-left-requires
 chosen-left-requires c = (places (goal.at.chosen-left-requires c).After-reaching-kept, crew (goal.at.chosen-left-requires c).After-reaching-kept, found-by _ _ _ c.requires.ready _ _ _ c.reaching-kept.ensures.0)
 
 pub pass_turn-requires-then-left-ne0 : goal.pass_turn-requires-then-left-ne0
-pass_turn-requires-then-left-ne0 c =     let a = c.args in
+pass_turn-requires-then-left-ne0 c = let a = c.args in
     let p = c.requires in
     let r = c.reaching-kept in
     let s = a.job.now in
@@ -70,7 +70,7 @@ pass_turn-requires-then-left-ne0 c =     let a = c.args in
     let h = c.if-left-ne0.true in record { ready = p.ready; c_bound = (chosen-low s i t p.ready r.result q m r.ensures.0 a.w a.n p.n_bound.0 r.ensures.1 x h, p.n_bound.1); c_value = (chosen-own s i t p.ready r.result q m r.ensures.0 a.w a.n p.n_bound.0 r.ensures.1 x h, (chosen_left s i t p.ready r.result q m r.ensures.0 a.w a.n p.n_bound.0 r.ensures.1 x h).some); keeps = subst⁻¹ (λ (y : Kept). Keeps (job_of s) t y q m) c.choosing-next.ensures (chosen-keeps s i t p.ready r.result q m r.ensures.0 a.w a.n p.n_bound.0 r.ensures.1 x h) }
 
 pub returns-then-left-ne0 : goal.returns-then-left-ne0
-returns-then-left-ne0 c =     let a = c.args in
+returns-then-left-ne0 c = let a = c.args in
     let p = c.requires in
     let r = c.reaching-kept in
     done_through (work-passes a.job.now a.index.now a.table.now p.ready r.result r.new.place r.new.members r.ensures.0 a.w a.n p.n_bound.0 r.ensures.1 c.chosen-left.ensures c.if-left-ne0.true) c.pass_turn-then-left-ne0.ensures
@@ -85,19 +85,19 @@ pub slice_bounds-complete-end-then-all_owned : goal.slice_bounds-complete-end-th
 slice_bounds-complete-end-then-all_owned c = sym (length-take-le _ _ (many (goal.at.slice_bounds-complete-end-then-all_owned c).After-reaching-kept))
 
 pub complete-requires : goal.complete-requires
-complete-requires c =     let a = c.args in
+complete-requires c = let a = c.args in
     let p = c.requires in
     let r = c.reaching-kept in
     let q = r.new.place in
     let m = r.new.members in record { lent = (lent-part _ _ _ p.ready r.result q m r.ensures.0, alone-part a.job.now a.index.now a.table.now p.ready r.result q m r.ensures.0 a.w a.n p.n_bound.0 r.ensures.1 c.chosen-left.ensures c.if-left-ne0.false c.all_owned.ensures c.if-all_owned.true p.n_bound.1); w_bound = p.n_bound.1 }
 
 pub dropped-requires : goal.dropped-requires
-dropped-requires c =     let r = c.reaching-kept in
+dropped-requires c = let r = c.reaching-kept in
     let g = r.ensures.0.gathered in
     subst⁻¹ (λ n. Gathered n (held r.result r.new.place r.new.members)) g.long g
 
 pub returns-then-all_owned : goal.returns-then-all_owned
-returns-then-all_owned c =     let a = c.args in
+returns-then-all_owned c = let a = c.args in
     let p = c.requires in
     let r = c.reaching-kept in
     let q = r.new.place in
@@ -109,7 +109,7 @@ returns-then-all_owned c =     let a = c.args in
     (nothing-keeps _ _ d.new.place m d.ensures.1 g.few (d.auto.place ∙ g.long) g.wide)
 
 pub returns : goal.returns
-returns c =     let a = c.args in
+returns c = let a = c.args in
     let p = c.requires in
     let r = c.reaching-kept in
     done_as c.after-2.ensures

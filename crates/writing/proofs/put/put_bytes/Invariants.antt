@@ -6,7 +6,7 @@ use Rattle.writing.specs.Written.{wrote}
 use Rattle.writing.proofs.put.put_bytes.Given as goal
 
 abbrev pub invariant-loop-i : goal.invariant-loop-i
-invariant-loop-i l =     (length l.buf ≡ length l.initial.buf)
+invariant-loop-i l = (length l.buf ≡ length l.initial.buf)
     × (l.i ≤ length l.s)
     × (l.at + length l.s ≤ length l.initial.buf)
     × (l.buf ≡ wrote l.initial.buf l.at (take l.i l.s))
