@@ -5,7 +5,7 @@
 --   Event              a turn that was made: its worker, its kind, and the table it left
 --   events s t xs      the turns of the list, in order
 --   times es w         how many of w's turns were of kind 7 (answered)
---   isAnswered         w's question k is answered: k + 1 of w's turns were of kind 7
+--   IsAnswered         w's question k is answered: k + 1 of w's turns were of kind 7
 --   answer_of j es w k  the answer of w's question k: what reading its claim gave when it was answered, as a number 1 to 3
 --   AllAnswered        all questions are answered
 --   Complete t c       reading claim c answers a value

@@ -1,5 +1,5 @@
-// The schedule of a run: its check, and its turns, one after the other. The contracts cite `runTable` and `runKinds` of the turn's specs, and
-// `checkSchedule` and `tally` of specs/Calls.
+// The schedule of a run: its check, and its turns, one after the other. The contracts cite `run_table` and `run_kinds` of the turn's specs, and
+// `check_schedule` and `tally` of specs/Calls.
 ghost use Rattle.std.specs.Prelude.{◌≡◌, ◌≤◌};
 ghost use Rattle.job.specs.Accepted.{WellFormed};
 ghost use Rattle.job.specs.Format.{claims, job_of};

@@ -1,5 +1,5 @@
 // The turns after the schedule: workers 0 to T - 1 over and over, none once all is answered.
-// The contracts cite specs/Finish, and `runTable`, `runKinds` and `counted` of the turns' specs.
+// The contracts cite specs/Finish, and `run_table`, `run_kinds` and `counted` of the turns' specs.
 ghost use Rattle.std.specs.Prelude.{◌≡◌, ℕ, ◌<◌, get_or};
 ghost use Rattle.job.specs.Accepted.{WellFormed};
 ghost use Rattle.base.specs.Number.{Number};

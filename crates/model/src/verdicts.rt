@@ -5,7 +5,7 @@ ghost use Rattle.model.specs.Output.{judged_byte, judged_output};
 
 use base::byte_sets;
 
-// The bytes of verdicts (semantics/specs/Model: byteOf).
+// The bytes of verdicts (semantics/specs/Model: byte_of).
 const TRUE: u8 = 1;
 
 const FALSE: u8 = 2;

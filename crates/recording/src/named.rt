@@ -1,4 +1,4 @@
-// The schedule that a record names. The contract cites `workersIn` of specs/Record.
+// The schedule that a record names. The contract cites `workers_in` of specs/Record.
 ghost use Rattle.std.specs.Prelude.{◌≤◌, length};
 ghost use Rattle.writing.specs.Written.{Put};
 ghost use Rattle.records.specs.Record.{pairs as pairsIn, workers_in};

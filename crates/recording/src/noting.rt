@@ -1,4 +1,4 @@
-// The turns of a schedule, taken and noted down: worker and kind of each. The contracts cite `recordOf` of the crate `records`.
+// The turns of a schedule, taken and noted down: worker and kind of each. The contracts cite `record_of` of the crate `records`.
 ghost use Rattle.std.specs.Prelude.{◌≡◌, ◌∷◌, [], ◌++◌, ◌*◌, ◌+◌, ◌≤◌, length, drop};
 ghost use Rattle.job.specs.Format.{claims, job_of};
 ghost use Rattle.table.specs.Questions.{Listed};

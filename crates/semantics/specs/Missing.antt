@@ -1,5 +1,5 @@
 -- Missing records (02, order 2): "the job so extended", in the order's words, and what holds of the verdicts of a valid job (proofs/Missing).
--- The model reads such a record as its head's own negation (specs/Model: bodyOf); that this is what the order says is Extension.
+-- The model reads such a record as its head's own negation (specs/Model: body_of); that this is what the order says is Extension.
 -- A missing record: a rule whose body is undefined, `c :- undefined` in tabled Prologs.
 --   Missing j c         claim c has a missing record
 --   extended_rule u r    rule r; a missing record is the rule of its head whose only literal is u

@@ -1,4 +1,4 @@
-// The turn of a worker that owns nothing open: its next question. The contracts cite `askTurn` of specs/Turn.
+// The turn of a worker that owns nothing open: its next question. The contracts cite `ask_turn` of specs/Turn.
 ghost use Rattle.std.specs.Prelude.{◌≡◌, List, ℕ, ◌<◌, length, get_or};
 ghost use Rattle.job.specs.Format.{workers as workers_of, job_of};
 ghost use Rattle.job.specs.Accepted.{WellFormed};

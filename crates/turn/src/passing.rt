@@ -1,4 +1,4 @@
-// The fourth bullet of a turn: a claim passes its next literal, or skips the rest of a rule that has failed. The contracts cite `passTurn` of specs/Turn, and
+// The fourth bullet of a turn: a claim passes its next literal, or skips the rest of a rule that has failed. The contracts cite `pass_turn` of specs/Turn, and
 // specs/KeptSet.
 ghost use Rattle.std.specs.Prelude.{◌≡◌, true, not, ℕ, ◌+◌, ◌-◌, ◌≤◌, ◌<◌, length, get_or, set};
 ghost use Rattle.base.specs.Lists.{keep};

@@ -1,5 +1,5 @@
 // The third bullet of a turn: what is reached from w's newest claim becomes complete, or one claim of it moves on.
-// The contracts cite `workTurn` of specs/Turn, and specs/KeptSet.
+// The contracts cite `work_turn` of specs/Turn, and specs/KeptSet.
 ghost use Rattle.std.specs.Prelude.{◌≡◌, ◌+◌, ◌<◌, length};
 ghost use Rattle.job.specs.Job.{most_claims};
 ghost use Rattle.job.specs.Format.{claims, workers, job_of};
