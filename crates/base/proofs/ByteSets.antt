@@ -1,6 +1,6 @@
 -- Sets of claims as bytes, changed and read byte by byte. Assumes nothing.
---   cleared_more, -all, -none   a set whose bytes are cleared
---   set_there, -gone, -same     one of which a byte is set
+--   cleared_more, _all, _none   a set whose bytes are cleared
+--   set_there, _gone, _same     one of which a byte is set
 --   set_keeps, set-within       one that a claim joins
 --   set-yes, set-no             one of which a byte was read; set_below, set-empty   where its claims are
 use Prim.Native.Nat.{ℕ, ◌+◌, ◌≤◌, ◌<◌}

@@ -2,7 +2,7 @@
 --   upto n       0, 1, .., n - 1
 --   keep p xs    the elements of xs for which p holds, in order
 --   every p xs   p holds of every element
---   is_in d xs    d stands in xs
+--   is_in d xs   d stands in xs
 --   Within xs n  every element is below n
 use Rattle.std.specs.Prelude.{ℕ, ◌<◌, Bool, true, false, ◌&&◌, List, [], ◌∷◌, eqb, length, get_or}
 use Rattle.base.specs.Choose.{pick}

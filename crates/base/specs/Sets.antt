@@ -3,7 +3,7 @@
 --   nothing       the empty set
 --   count W n     how many numbers below n are in W
 --   iterate f n   f applied n times, from the empty set on
---   set_of w       the numbers whose byte in w is not 0
+--   set_of w      the numbers whose byte in w is not 0
 use Rattle.std.specs.Prelude.{ℕ, zero, suc, ◌+◌, Bool, true, false, not, List, T, eqb, get_or}
 
 abbrev pub Claims : Type 0

@@ -1,11 +1,11 @@
 -- What each call answers, and the table it leaves (01, 'A turn of worker w', 'Checks by place').
 --   check_turn_worker, check_schedule, check_claim_read   rows 11 and 12
 --   start_check, turn_check, run_check, read_check   the rows that a call checks, in the table's order
---   start_table, turn_table, run_left               the table at exit
---   turn_answer, run_answer, read_answer            the answer
---   Named s ws                                   the schedule ws names workers of the job
---   Ran check s t ws r u                         a run gave what its check says: the answer r, the table u
---   tally ks                                     how many turns were of each kind
+--   start_table, turn_table, run_left                the table at exit
+--   turn_answer, run_answer, read_answer             the answer
+--   Named s ws                                       the schedule ws names workers of the job
+--   Ran check s t ws r u                             a run gave what its check says: the answer r, the table u
+--   tally ks                                         how many turns were of each kind
 use Rattle.std.specs.Prelude.{ℕ, ◌+◌, ◌<◌, List, [], ◌∷◌, ◌≡◌, length, get_or, set, replicate}
 use Rattle.base.specs.Compare.{not_below}
 use Rattle.job.specs.Rows.{◌⨾◌, row, scan}

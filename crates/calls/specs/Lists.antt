@@ -1,14 +1,14 @@
 -- Lists of calls on one job of bytes s, from a table t (01, 'Lists of calls').
---   Call               a single turn, a run, a reading of a claim
---   left s t x         the table that call x leaves; after s t xs   the table after the whole list
---   made s t x         the workers of the turns that call x makes, in order; turns_of s t xs   those of the whole list
---   Event              a turn that was made: its worker, its kind, and the table it left
---   events s t xs      the turns of the list, in order
---   times es w         how many of w's turns were of kind 7 (answered)
---   is_answered        w's question k is answered: k + 1 of w's turns were of kind 7
+--   Call                a single turn, a run, a reading of a claim
+--   left s t x          the table that call x leaves; after s t xs   the table after the whole list
+--   made s t x          the workers of the turns that call x makes, in order; turns_of s t xs   those of the whole list
+--   Event               a turn that was made: its worker, its kind, and the table it left
+--   events s t xs       the turns of the list, in order
+--   times es w          how many of w's turns were of kind 7 (answered)
+--   IsAnswered          w's question k is answered: k + 1 of w's turns were of kind 7
 --   answer_of j es w k  the answer of w's question k: what reading its claim gave when it was answered, as a number 1 to 3
---   AllAnswered        all questions are answered
---   Complete t c       reading claim c answers a value
+--   AllAnswered         all questions are answered
+--   Complete t c        reading claim c answers a value
 use Rattle.std.specs.Prelude.{ℕ, ◌+◌, ◌-◌, ◌<◌, ◌≤◌, Bool, ◌&&◌, List, [], ◌∷◌, ◌++◌, eqb, length}
 use Rattle.base.specs.Choose.{pick}
 use Rattle.job.specs.Job.{Job}

@@ -1,15 +1,15 @@
 -- Demands 2 and 3 for an accepted job of bytes s: what holds of every list of calls, and of every two, from freshly started tables.
---   Fresh s t       t is long enough for the job: a table to be started
---   from s t xs     the table after the list xs, from t freshly started; history s t xs   its turns
---   Asked j c       a question names c or leads to it through all literals of rules (semantics/specs/Leads: LeadsTo)
---   FalseAmong      one of some literals is complete and false
---   OthersBehind    the literals of rules of complete claims whose claims aren't complete stand behind a complete false one
---   OpenedFor       what a worker opens a claim for
---   alone j         the same job with one worker, worker 0, in every question
---   turns n         n single turns of worker 0
---   bound j         2L + A + 3Q
+--   Fresh s t        t is long enough for the job: a table to be started
+--   from s t xs      the table after the list xs, from t freshly started; history s t xs   its turns
+--   Asked j c        a question names c or leads to it through all literals of rules (semantics/specs/Leads: LeadsTo)
+--   FalseAmong       one of some literals is complete and false
+--   OthersBehind     the literals of rules of complete claims whose claims aren't complete stand behind a complete false one
+--   OpenedFor        what a worker opens a claim for
+--   alone j          the same job with one worker, worker 0, in every question
+--   turns n          n single turns of worker 0
+--   bound j          2L + A + 3Q
 --   extended_mark    the mark that completion gives, by the job extended for its missing records
---   Promise s       the demands, a field a clause; the model that they speak of is that of the job extended for its missing records
+--   Promise s        the demands, a field a clause; the model that they speak of is that of the job extended for its missing records
 use Rattle.std.specs.Prelude.{ℕ, zero, suc, ◌+◌, ◌*◌, ◌<◌, ◌≤◌, ◌≡◌, List, [], ◌∷◌, ◌++◌, map, ◌↔◌, length, get_or}
 use Rattle.job.specs.Job.{Job, Rule, claim_of, literal_count}
 use Rattle.job.specs.Format.{job_of}

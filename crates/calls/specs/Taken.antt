@@ -1,9 +1,9 @@
 -- What each call gives on a table that calls made: every turn, run and reading of the job's own workers and claims is taken, and no other.
 -- A promise on tables says little where calls are refused, or answer something else than what happened: this rules that out.
 --   how_many n ks    how many of the kinds ks have the number n
---   Tallied ks      the tally of these kinds: eight counts, each of one kind
---   Started s t     starting: a table that is long enough gets its header and zeros, a shorter one is refused
---   Taken s t       the calls on a table t of job s
+--   Tallied ks       the tally of these kinds: eight counts, each of one kind
+--   Started s t      starting: a table that is long enough gets its header and zeros, a shorter one is refused
+--   Taken s t        the calls on a table t of job s
 use Rattle.std.specs.Prelude.{ℕ, ◌+◌, ◌≤◌, ◌<◌, ◌≡◌, List, [], ◌∷◌, eqb, length, get_or, replicate}
 use Rattle.base.specs.Choose.{pick}
 use Rattle.job.specs.Format.{job_of}

@@ -1,6 +1,6 @@
 -- How many literals the rules of `order` have, rule by rule. Assumes nothing.
 --   Summing sizes order n k   those of its first k rules are n
---   summing_start, -inside, -room, -more, -end   none yet; the next rule has a size; the sum fits; one rule more; all
+--   summing_start, -inside, -room, _more, _end   none yet; the next rule has a size; the sum fits; one rule more; all
 use Prim.Native.Nat.{ℕ, ◌+◌, ◌<◌, ◌≤◌}
 use mathlib.Core.Path.{◌≡◌, sym, ◌∙◌, ap}
 use mathlib.Core.List.{List}

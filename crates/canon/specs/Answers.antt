@@ -1,5 +1,5 @@
 -- What the calls answer and write (02, order 7; "Checks: 19 output shorter than the job, last").
---   check_form s n       rows 1 to 8, then 19, for an output of n bytes
+--   check_form s n      rows 1 to 8, then 19, for an output of n bytes
 --   Canonical ..        what the call ensures of a job's bytes s and an output that held `before`: its check c, its length n, and the
 --                       output o at exit
 --   Compared s t r      what the comparing call ensures of its answer r

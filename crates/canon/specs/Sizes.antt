@@ -1,9 +1,9 @@
 -- What the writing of rules goes by: how many literals are kept of each, and where.
 --   Sizes job sizes               `sizes` says how many literals the line of each rule has
---   sizes_of sizes order           how many the rules of `order` have together
+--   sizes_of sizes order          how many the rules of `order` have together
 --   Held s starts sizes i         the literals kept of rule i stand in s
 --   HeldAll s starts sizes order  so do those of each rule of `order`
---   kept_bytes s starts sizes i    their bytes
+--   kept_bytes s starts sizes i   their bytes
 use Rattle.std.specs.Prelude.{ℕ, ◌+◌, ◌<◌, ◌≤◌, ◌≡◌, length, get_or}
 use mathlib.Core.List.{List, [], ◌∷◌, flat_map}
 use Rattle.job.specs.Format.{rules}

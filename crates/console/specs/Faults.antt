@@ -1,7 +1,7 @@
 -- What checks 1 to 8 found wrong with a job, in words up to the place, as ASCII bytes (README, 'Refusals').
 --   length_fault, total_fault, ..   the words of each check
---   fault_words n                  those of check n; any other number has those of check 8
---   most_fault                     no words are longer
+--   fault_words n                   those of check n; any other number has those of check 8
+--   most_fault                      no words are longer
 use Rattle.std.specs.Prelude.{ℕ, List, [], ◌∷◌, eqb}
 use Rattle.base.specs.Choose.{pick}
 

@@ -1,6 +1,6 @@
 -- The start of a D (specs/Counters: Begun): the heads of rules that count nothing join. Assumes nothing.
 --   fits-empty                             an empty queue fits any set
---   Facting, facting-start, -more, -done   the heads of the rules below n that count nothing are in w
+--   Facting, facting-start, -more, _done   the heads of the rules below n that count nothing are in w
 use Prim.Native.Nat.{ℕ, ◌+◌, ◌*◌, ◌<◌, ◌≤◌}
 use mathlib.Core.Path.{◌≡◌, refl, sym, ◌∙◌, ap, subst}
 use mathlib.Core.Bool.{Bool, true, false, true≢false}

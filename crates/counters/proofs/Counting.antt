@@ -1,6 +1,6 @@
 -- The counters of the rules (specs/Positions: Counts). Assumes nothing.
 --   counts_same               where the same positions are due
---   counts_some, -pay, -owe   one position less is due, or one more
+--   counts_some, _pay, _owe   one position less is due, or one more
 --   counts-most               what a counter has at most
 use Prim.Native.Nat.{ℕ, suc, ◌+◌, ◌-◌, ◌<◌, ◌≤◌}
 use mathlib.Core.Path.{◌≡◌, refl, sym, ◌∙◌, ap, subst⁻¹}

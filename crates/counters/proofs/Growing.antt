@@ -2,8 +2,7 @@
 -- chain that is walked. Assumes nothing.
 --   growing_fires      the head of a rule that counts nothing is where the claims that join are
 --   growing-joined     a claim joins; joined-grown, joined-there   what that leaves
---   growing-some, -pay a position is done: its rule counted it
---   growing-walk, -step, -next   a chain from its last position down, and on to the next key
+--   growing-some, _pay a position is done: its rule counted it
 use Prim.Native.Nat.{ℕ, ◌+◌, ◌*◌, ◌-◌, ◌<◌, ◌≤◌}
 use mathlib.Core.Path.{◌≡◌, refl, sym, ◌∙◌, ap, ap₂, subst, subst⁻¹}
 use mathlib.Core.Bool.{Bool, true, false, not, cond, ◌||◌, or-true}

@@ -1,6 +1,6 @@
 -- Claims that join a set and its queue (specs/Queues: Joined, Joins, Fits, Grown). Assumes nothing.
---   fits_unseen, -room, -join, -joined, -joins   a set and a queue that fit, where a claim joins
---   joined-there, -grown, -old, -long, -up, joins-grown   what a claim that joins leaves, and several
+--   fits_unseen, -room, _join, -joined, -joins   a set and a queue that fit, where a claim joins
+--   joined-there, -grown, _old, -long, -up, joins-grown   what a claim that joins leaves, and several
 --   grown-refl, grown_trans                      nothing joined, and one after the other
 use Prim.Native.Nat.{ℕ, ◌+◌, ◌*◌, ◌<◌, ◌≤◌}
 use mathlib.Core.Path.{◌≡◌, refl, ◌∙◌, ap, subst, subst⁻¹}

@@ -2,8 +2,8 @@
 --   stays-outside, -inside, -no   a claim that stays, and one that doesn't
 --   left-stays, -goes             what `leave` does; owed-stands, -leaves   and `owe`
 --   by_left                       what holds of both ways holds of what is left
---   left-fewer, -out, -old, -up, -fallen   what a claim that leaves leaves
---   fallen-refl, -trans           nothing left, and one after the other
+--   left-fewer, _out, _old, _up, -fallen   what a claim that leaves leaves
+--   fallen-refl, _trans           nothing left, and one after the other
 --   fallen-front, -fewer          the first keys stay; the set has no more claims
 use Prim.Native.Nat.{ℕ, ◌+◌, ◌*◌, ◌<◌, ◌≤◌}
 use mathlib.Core.Path.{◌≡◌, refl, sym, ◌∙◌, ap, ap₂, subst, subst⁻¹}

@@ -1,6 +1,6 @@
 -- The negations of the plain claims of a queue (specs/Doubts: Negations). Assumes nothing.
 --   negations-start        none
---   negations-odd, -even   one key more, negated or plain
+--   negations-odd, _even   one key more, negated or plain
 use Prim.Native.Nat.{ℕ, ◌+◌, ◌*◌, ◌/◌, ◌%◌, ◌<◌}
 use mathlib.Core.Path.{◌≡◌, sym, ◌∙◌, ap, subst, subst⁻¹}
 use mathlib.Core.Bool.{Bool, ◌||◌}

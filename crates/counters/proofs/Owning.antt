@@ -7,7 +7,7 @@
 --   owner_is              a position in a rule's body is that rule's
 --   waiting-body          a rule waits for what is due in its body
 --   Counted s cnt base due i   the counters of the rules below i, each by its body
---   counted_start, -more, -done
+--   counted_start, _more, -done
 use Prim.Native.Nat.{ℕ, zero, suc, ◌+◌, ◌<◌, ◌≤◌}
 use mathlib.Core.Path.{◌≡◌, refl, ◌∙◌, ap, subst, subst⁻¹}
 use mathlib.Core.Bool.{Bool, true, false, ◌&&◌, and-false}

@@ -1,7 +1,7 @@
 -- Positions and their literals (specs/Counters: lacking). Assumes nothing.
 --   holds_wider              a literal that holds in a smaller set
 --   lacking-..               literals that hold, and those of a claim that joins a set or leaves it
---   key-plain, key-negated   a literal by its key
+--   key-plain                a literal by its key
 use Prim.Native.Nat.{ℕ, ◌+◌, ◌*◌}
 use mathlib.Core.Path.{◌≡◌, refl, ap}
 use mathlib.Core.Bool.{Bool, true, false, not, true≢false}

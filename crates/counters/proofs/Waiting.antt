@@ -1,6 +1,6 @@
 -- How many positions a rule waits for (specs/Positions: waiting). Assumes nothing.
 --   waiting_same, -less, -other   of two sets of positions that agree, everywhere or but for one
---   waiting_done, -none           a rule that waits for nothing, and for none of its positions
+--   waiting_done, _none           a rule that waits for nothing, and for none of its positions
 use Prim.Native.Nat.{ℕ, suc, ◌<◌}
 use mathlib.Core.Path.{◌≡◌, refl, sym, ◌∙◌, ap}
 use mathlib.Core.Bool.{Bool, true, false, ◌&&◌, and-false}

@@ -4,7 +4,7 @@
 --   Walk R s q i t key j  the key at place i of a queue, walked up to its place j: of its positions those from x on are done, by which R x holds
 --   Skips R s q i         positions that don't have the key make no difference to R
 --   Next R s q i key j r  the position at place j, of rule r, next to be done
---   walk_start, -most, -end, -next, -on
+--   walk_start, _most, _end, -next, -on
 use Prim.Native.Nat.{ℕ, ◌+◌, ◌<◌, ◌≤◌}
 use mathlib.Core.Path.{◌≡◌, sym, ◌∙◌, subst⁻¹}
 use mathlib.Core.List.{List}

@@ -1,5 +1,5 @@
 -- Small powers, and digits by division. Assumes nothing.
---   power_none, -one, -two, -three   b to the power of 0, 1, 2, 3, where b is at most 28
+--   power_none, _one, -two, -three   b to the power of 0, 1, 2, 3, where b is at most 28
 --   square-low, cube-low     they are small
 --   some_power               a power is not 0
 --   choice-by, sign-by       the digits that are a choice of set k, a sign of body x

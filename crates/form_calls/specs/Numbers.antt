@@ -1,6 +1,6 @@
 -- The answers of the calls on forms as numbers.
 --   FormAnswered s out out' x   x is the number of an answer that canon promises of the form of job s
---   of_comparison c              0 earlier, 1 equal, 2 later
+--   of_comparison c             0 earlier, 1 equal, 2 later
 --   OrderAnswered s t x         x is the number of an answer that canon promises of two byte strings
 use Rattle.std.specs.Prelude.{ℕ, List, ◌≡◌}
 use Rattle.job.specs.declared.Check.{Check}

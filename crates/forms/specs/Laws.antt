@@ -3,7 +3,7 @@
 --   Ordered rs        each rule stands so behind all before it
 --   OneWay j          how the form of job j is written
 --   OneForm s         all that is promised of the form of the job that bytes s hold, where they are accepted
---   at_most s t        s is t or comes before it: the first difference decides
+--   at_most s t       s is t or comes before it: the first difference decides
 --   ByteOrder         the order on byte strings, and over the forms
 use Rattle.std.specs.Prelude.{ℕ, ◌<◌, ◌≤◌, ◌≡◌, Bool, true, false, not, List, [], ◌∷◌, ◌++◌, ◌↔◌, ◌⊎◌, T, ltb, length}
 use Rattle.job.specs.Job.{Rule, Job}

@@ -1,9 +1,9 @@
 -- Some small jobs, and the rules of their forms written out by hand along order 7's sentence: one table, one theorem, which is computed
 -- (proofs/Worked).
---   Example            rules, and those that a form has for them
---   examples           the table
+--   Example             rules, and those that a form has for them
+--   examples            the table
 --   job_with rs         the job with rules rs: 300 claims, 2 workers, and questions that don't rise, one of them twice
---   FormsRight         the theorem: the jobs are accepted, and the form of each is the job with the rules stated for it
+--   FormsRight          the theorem: the jobs are accepted, and the form of each is the job with the rules stated for it
 use Rattle.std.specs.Prelude.{◌≡◌, List, [], ◌∷◌, map}
 use Rattle.job.specs.Job.{Rule, Job, ◌if◌, missing_record}
 use Rattle.job.specs.Checks.{check_job}

@@ -1,13 +1,13 @@
 -- Partners with unpublished claims (02, order 8): which questions a worker may put, and rows 20 and 21. gs has one byte a claim, ws one a worker.
---   Open gs g c            claim c is public or of group g
---   MayPut j gs g c        a worker of group g may put the question c
---   DifferElsewhere j j' gs g   j and j' differ only in rules headed by claims that are neither public nor of group g
---   foreign gs g c         c is neither, as a test
---   leaves W ls            one of the literals ls has a claim in W
---   nearer j gs g W        the claims that are foreign, or have a literal with a claim in W
---   abroad j gs g          the claims that lead to a foreign group
+--   Open gs g c             claim c is public or of group g
+--   MayPut j gs g c         a worker of group g may put the question c
+--   DifferElsewhere j j' gs g     j and j' differ only in rules headed by claims that are neither public nor of group g
+--   foreign gs g c          c is neither, as a test
+--   leaves W ls             one of the literals ls has a claim in W
+--   nearer j gs g W         the claims that are foreign, or have a literal with a claim in W
+--   abroad j gs g           the claims that lead to a foreign group
 --   group_of ws w           the group of worker w
---   asked s q              question q of the file; asker_group s ws q   the group of its worker
+--   asked s q               question q of the file; asker_group s ws q   the group of its worker
 --   check_lists, check_partners   rows 20 and 21
 --   admit_check s gs ws     the rows of the call, in the table's order
 use Rattle.std.specs.Prelude.{ℕ, Bool, false, ◌&&◌, ◌||◌, List, [], ◌∷◌, ◌≡◌, ◌↔◌, ltb, length, get_or}

@@ -1,6 +1,6 @@
 -- A job's bytes are those of its 16-bit fields. Assumes nothing.
 --   fields_of j   the fields of job j, part by part
---   Holds s j    the fields of j stand in s, each part at its offset
+--   Holds s j     the fields of j stand in s, each part at its offset
 use Prim.Native.Nat.{ℕ, ◌+◌, ◌*◌, ◌/◌}
 use mathlib.Core.Path.{◌≡◌, refl, ◌∙◌, ap, ap₂}
 use mathlib.Core.List.{List, [], ◌∷◌, ◌++◌, map, flat_map}

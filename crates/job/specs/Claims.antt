@@ -1,14 +1,14 @@
 -- One claim's literals. Heads never fall from rule to rule, so they stand together: a contiguous part of the job's literals.
 --   literals_below s c m   the literals of those of m rules whose head is below c
 --   claim_start s c        where c's literals start among the job's, and those of c - 1 end
---   Starts s index        entry c of an index is where c's literals start; the one past the last claim is where they end
+--   Starts s index         entry c of an index is where c's literals start; the one past the last claim is where they end
 --   bounds_from            the entries from here on have a bit a literal, 16 to an entry; index_entries   how many there are in all
 --   bound_at index i       the bit of the job's literal i says that a rule ends before it
---   Bounds s index m      it does where one of the first m rules ends, and nowhere else, up to the last bit of the last entry
---   Index s index         the index: both, of all rules, and 0 for the claims that the job hasn't. So each entry is said
+--   Bounds s index m       it does where one of the first m rules ends, and nowhere else, up to the last bit of the last entry
+--   Index s index          the index: both, of all rules, and 0 for the claims that the job hasn't. So each entry is said
 --   end_in index i         the first place past literal i that a rule ends before, by the index: where the literal's rule ends
---   ClaimLiterals s c     the literals of c, over its rules in file order, are the part from claim_start s c to claim_start s (c + 1)
---   moved c               the cursor past the current literal; past_rule index c   the one past that literal's rule
+--   ClaimLiterals s c      the literals of c, over its rules in file order, are the part from claim_start s c to claim_start s (c + 1)
+--   moved c                the cursor past the current literal; past_rule index c   the one past that literal's rule
 use Rattle.std.specs.Prelude.{ℕ, zero, suc, ◌+◌, ◌-◌, ◌/◌, ◌%◌, ◌^◌, ◌≤◌, ◌<◌, List, ◌≡◌, Bool, true, false, not, cond, eqb, length, get_or}
 use Rattle.base.specs.Choose.{pick}
 use Rattle.base.specs.Compare.{under}

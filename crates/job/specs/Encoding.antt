@@ -1,10 +1,10 @@
 -- Which bytes are a job's: the encoding of a job, written out along 01, 'Job bytes'.
 --   half_bytes x, word_bytes x   16 and 32 bits, little-endian
---   length_of r                 a rule's body length as written, 65,535 for a missing record
---   field_of l                  a literal's 16 bits
---   encode j                   the bytes of job j
---   Valid j                    j is within the limits, its heads never fall, all its numbers are below their counts, and its
---                              missing records have no literals
+--   length_of r                  a rule's body length as written, 65,535 for a missing record
+--   field_of l                   a literal's 16 bits
+--   encode j                     the bytes of job j
+--   Valid j                      j is within the limits, its heads never fall, all its numbers are below their counts, and its
+--                                missing records have no literals
 use Rattle.std.specs.Prelude.{ℕ, ◌+◌, ◌/◌, ◌%◌, ◌<◌, ◌≤◌, ◌≡◌, true, cond, length}
 use mathlib.Core.List.{List, [], ◌∷◌, ◌++◌, flat_map, Memᴰ}
 use Rattle.job.specs.Job.{claim_of, Rule, Job, literal_count, most_claims, most_rules, most_literals, most_workers, most_questions, missing_length}

@@ -1,14 +1,14 @@
 -- What the bytes s of a job mean (01, 'Job bytes'; 02, order 2).
---   total s, claims s, ..        the nine words of the header
---   rule_byte i, ..               where rule i, literal k and question q start
+--   total s, claims s, ..          the nine words of the header
+--   rule_byte i, ..                where rule i, literal k and question q start
 --   head_at s i, length_at s i     the two fields of rule i
---   missing_at s i                rule i is a missing record (02, order 2)
+--   missing_at s i                 rule i is a missing record (02, order 2)
 --   body_length_at s i             how many literals rule i has: a missing record has none
---   head_before s i               the head of the rule before i; 0 before the first
---   body_start s i                the first literal of rule i, counted over all bodies
---   literal_at s m k              literal k of a job with m rules
---   question_at s m l q           question q of a job with m rules and l literals
---   job_of s                      the job
+--   head_before s i                the head of the rule before i; 0 before the first
+--   body_start s i                 the first literal of rule i, counted over all bodies
+--   literal_at s m k               literal k of a job with m rules
+--   question_at s m l q            question q of a job with m rules and l literals
+--   job_of s                       the job
 use Rattle.std.specs.Prelude.{ℕ, zero, suc, ◌+◌, ◌*◌, ◌-◌, List, Bool, cond, ltb, eqb}
 use Rattle.base.specs.Span.{span}
 use Rattle.job.specs.Bytes.{half, word}

@@ -1,10 +1,10 @@
 -- A job (01, 'Job bytes'), as values: ground rules about numbered claims, workers, and their questions.
---   Literal           a claim, plain or negated (declared in src/lib.rt: Plain c, Negated c)
+--   Literal            a claim, plain or negated (declared in src/lib.rt: Plain c, Negated c)
 --   claim_of l         the literal's claim
---   Rule              a head and the literals of its body; or a missing record (02, order 2), which has a head and no literals
---   h if b            the rule with head h and body b; missing_record h   the missing record of h
---   Question          a worker and the claim it asks (declared in src/lib.rt)
---   Job               claims A, workers T, rules in file order, questions in file order
+--   Rule               a head and the literals of its body; or a missing record (02, order 2), which has a head and no literals
+--   h if b             the rule with head h and body b; missing_record h   the missing record of h
+--   Question           a worker and the claim it asks (declared in src/lib.rt)
+--   Job                claims A, workers T, rules in file order, questions in file order
 --   literal_count j    L: the literals of all bodies
 --   literals_of c rs   the literals of claim c over its rules in file order
 --   rule_end c rs k    where the rule of literal k of these ends among them

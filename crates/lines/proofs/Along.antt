@@ -1,7 +1,7 @@
 -- What the text of lines does, part by part: where it leads, and which numbers it has. Assumes nothing.
---   rule_items, ask_items    the numbers of a rule's line, and of a question's; rules_items, asks_items   those of lines behind `line` others
---   items_in keep l         the numbers of the lines l, each kept as `keep` has it; `same` keeps what is typed
---   end_state qs            the state behind the questions qs: where more lines may follow
+--   rule_items, ask_items  the numbers of a rule's line, and of a question's; rules_items, asks_items   those of lines behind `line` others
+--   items_in keep l        the numbers of the lines l, each kept as `keep` has it; `same` keeps what is typed
+--   end_state qs           the state behind the questions qs: where more lines may follow
 --   text-leads             the text of l leads there, past its lines, and has these numbers
 --   text-items, text-fits  the same of the numbers, and of row 14
 use Prim.Native.Nat.{ℕ, ◌+◌, ◌*◌}

@@ -1,8 +1,8 @@
 -- Numbers kept at 65,536: no limit and no count tells what is past it apart. Assumes nothing.
---   cap-kept, cap-past                 a number that is not past it; one that is
---   cap_add                            a digit more
+--   cap-kept, cap-past                  a number that is not past it; one that is
+--   cap_add                             a digit more
 --   cap_over, cap-not_below, cap_under  the tests of row 15
---   digit-kept                         what is read digit by digit is never past it
+--   digit-kept                          what is read digit by digit is never past it
 use Prim.Native.Nat.{ℕ, ◌+◌, ◌*◌, ◌<◌, ◌≤◌}
 use mathlib.Core.Path.{◌≡◌, refl, sym, ◌∙◌, ap}
 use mathlib.Core.Bool.{Bool, true, false}

@@ -1,5 +1,5 @@
 -- Row 15 of numbers in turn, as rows and a count. Assumes nothing.
---   rows_of t xs                 a row for each number of xs, with the tally so far
+--   rows_of t xs                a row for each number of xs, with the tally so far
 --   counts t xs                 the tally with the numbers xs
 --   judged-check, judged-tally  `judged` is these two
 --   rows_append, counts_append  of two lists

@@ -1,7 +1,7 @@
 -- The notes of a text along its bytes. Assumes nothing.
 --   notes_from sc bs   the notes of the bytes left; notes-from   those of the numbers in them
---   Noting ..         the notes of the first i bytes are written
---   noting-start, -kept, -room, -more, -size, -end   none yet; the next number is kept; it has room; it is noted; the length; all
+--   Noting ..          the notes of the first i bytes are written
+--   noting-start, -kept, -room, _more, _size, _end   none yet; the next number is kept; it has room; it is noted; the length; all
 use Prim.Native.Nat.{ℕ, ◌+◌, ◌<◌, ◌≤◌}
 use mathlib.Core.Path.{◌≡◌, refl, ◌∙◌, ap}
 use mathlib.Core.List.{List, [], ◌∷◌, ◌++◌, flat_map}

@@ -1,7 +1,7 @@
 -- The text of lines passes row 14, and says them and no others: its numbers tell them. Assumes nothing.
---   complete    row 14 accepts it
+--   complete     row 14 accepts it
 --   lines_by xs  the lines whose numbers xs are, read from the last number to the first
---   unique      lines with the same text are the same
+--   unique       lines with the same text are the same
 use Prim.Native.Nat.{ℕ, ◌+◌}
 use mathlib.Core.List.{List, [], ◌∷◌, ◌++◌, map, append-nil, append_assoc}
 use mathlib.Core.Path.{◌≡◌, refl, sym, ◌∙◌, ap}

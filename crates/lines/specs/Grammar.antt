@@ -2,10 +2,10 @@
 -- where L is a claim or `not` and a claim; then `ask W C` lines. Numbers have no leading zeros, words are parted by single spaces,
 -- every line ends in a line feed."). Laws has what it reads: exactly the texts that are written so.
 --   is_digit b       b is a digit's byte
---   after w         the state behind a whole word
---   ended s b       the state behind b, where b stands behind a number
---   step st b       the state behind byte b
---   run st bs       the state behind the bytes
+--   after w          the state behind a whole word
+--   ended s b        the state behind b, where b stands behind a number
+--   step st b        the state behind byte b
+--   run st bs        the state behind the bytes
 --   line_start st    1 at the start of a line, else 0
 use Rattle.std.specs.Prelude.{ℕ, ◌+◌, List, [], ◌∷◌, Bool, true, false, eqb, length, get_or}
 use Rattle.base.specs.Choose.{pick}

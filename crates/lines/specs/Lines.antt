@@ -2,12 +2,12 @@
 --   RuleLine           a rule as it is typed: a head and the literals of its body
 --   Lines              claims A, workers T, rules in line order, questions in line order
 --   letters w          a fixed word between the numbers, with the spaces beside it
---   text_of l           the text of l; line_count l   how many lines it has
+--   text_of l          the text of l; line_count l   how many lines it has
 --   typed l            the rules of l, as rules of a job
 --   headed h rs        the rules of head h, in their order
 --   sorted a rs        the rules of heads 0 to a - 1, one head after the other, each head's in their order
---   job_from l          the job of l: its rules sorted by head, its questions
---   job_size l          the bytes of that job
+--   job_from l         the job of l: its rules sorted by head, its questions
+--   job_size l         the bytes of that job
 use Rattle.std.specs.Prelude.{ℕ, ◌+◌, eqb, length}
 use mathlib.Core.List.{List, [], ◌∷◌, ◌++◌, flat_map, map}
 use Rattle.base.specs.Choose.{pick}

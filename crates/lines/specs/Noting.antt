@@ -3,7 +3,7 @@
 --   note_of x, notes xs   what is noted of a number; of numbers in turn
 --   notes_of s          the notes of a text
 --   most_rule_notes, most_notes   how many notes the rules of a job have at most, and all of it
---   Kept e             a number is at most 65,536
+--   Kept e              a number is at most 65,536
 --   rule_notes r, ask_notes q   those of a rule's line and of a question's
 use Rattle.std.specs.Prelude.{ℕ, ◌+◌, ◌*◌, ◌≤◌}
 use mathlib.Core.List.{List, [], ◌∷◌, flat_map, map}

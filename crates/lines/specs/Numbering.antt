@@ -1,16 +1,16 @@
 -- The numbers of a text along its bytes, and row 15 of them (02, order 1): "15 over all lines, a count past 01's limits, T 0, or a claim
 -- or worker not below its count", place the line, from 1. Checks has the row in the terms of the lines that the text says.
 -- A number has any count of digits; the code keeps those past 65,536 there, which no limit or count tells apart (proofs/Capped).
---   cap n              n, or 65,536 where it is past that
+--   cap n               n, or 65,536 where it is past that
 --   digit_by keep n b   the number n with the digit b more, kept as `keep` has it; 0 behind any other byte
 --   Scan, begin, advance   how far a text is read: at its start, and behind one byte more
 --   event_at sc b       the number that byte b ends, if it ends one
---   Item               a number of a text: its line, what it stands for, its value
+--   Item                a number of a text: its line, what it stands for, its value
 --   items, items_of     the numbers of the bytes left; of a whole text
 --   counted_with t e    the tally with a number more
 --   faulty_with t e     whether that number, or the tally that has it, is out of range
---   judged t xs        the numbers in turn, up to the first fault
---   Small t            what the tally of a text without a fault has
+--   judged t xs         the numbers in turn, up to the first fault
+--   Small t             what the tally of a text without a fault has
 use Rattle.std.specs.Prelude.{ℕ, ◌+◌, ◌*◌, ◌-◌, ◌≤◌, List, [], ◌∷◌, ◌++◌, Bool, false, ◌||◌}
 use Rattle.base.specs.Choose.{pick}
 use Rattle.base.specs.Compare.{under, over, not_below}

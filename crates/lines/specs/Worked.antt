@@ -1,7 +1,7 @@
 -- A text worked out by hand (02, order 1), byte by byte: every form of a line, and rules that are not in the order of their heads.
 --   example_lines, example_text   lines, and what is typed for them
---   example_job                  their job
---   Worked                      that the definitions give these
+--   example_job                   their job
+--   Worked                        that the definitions give these
 use Rattle.std.specs.Prelude.{ℕ, List, [], ◌∷◌, ◌≡◌}
 use Rattle.job.specs.Job.{Job, ◌if◌}
 use Rattle.job.specs.declared.Literal.TheVariants.{Plain, Negated}

@@ -3,8 +3,8 @@
 --   run-start, run_more, run_none, run_size   the first text; one more; none yet; the buffer's length
 --   put-refusal-line, put-claim-line, put-answer-line, put-question-line, put-counted   a line, or a count of the tally
 --   claims_none, claims-more         lines of claims: none yet; one more
---   counts_none, -more, -whole       counts of the tally: none yet; one more; the whole line
---   first_lines s t k, first_none, -more, -whole   the lines of the first k questions: none yet; one more; all
+--   counts_none, -more, _whole       counts of the tally: none yet; one more; the whole line
+--   first_lines s t k, first_none, _more, -whole   the lines of the first k questions: none yet; one more; all
 use Prim.Native.Nat.{ℕ, zero, suc, ◌+◌, ◌*◌, ◌≤◌, ◌<◌}
 use mathlib.Core.Path.{◌≡◌, refl, sym, ◌∙◌, ap, ap₂}
 use mathlib.Core.List.{List, [], ◌∷◌, ◌++◌, flat_map, append_assoc, append-nil}

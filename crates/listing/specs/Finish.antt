@@ -2,8 +2,8 @@
 --   answered_all j t       all questions are answered, by the words
 --   next_worker j w        0 after the last worker
 --   finish_turns n j t w   the workers of the turns taken from table t, from worker w on, at most n
---   most j                as many turns as 2L + A + 3Q rounds have
---   Finished s            from a fresh start, after the turns of any schedule, the finishing turns answer all
+--   most j                 as many turns as 2L + A + 3Q rounds have
+--   Finished s             from a fresh start, after the turns of any schedule, the finishing turns answer all
 use Rattle.std.specs.Prelude.{ℕ, zero, suc, ◌+◌, ◌*◌, ◌<◌, Bool, true, List, [], ◌∷◌, ◌++◌, ◌≡◌, leb, eqb, length, get_or}
 use Rattle.base.specs.Choose.{pick}
 use Rattle.base.specs.Lists.{upto, every}

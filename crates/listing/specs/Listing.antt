@@ -9,12 +9,12 @@
 --   question_lines      the lines of questions, from question k on
 --   line_of s t k       the line of question k, from the job's bytes s
 --   count_text n        a count of the tally
---   heading word n     a heading: its word and a count
+--   heading word n      a heading: its word and a count
 --   text_of j t ns      the text of job j whose table is t at the end, with the tally ns
---   played j t ws      the turns of a listing from table t: those of the schedule ws, then those that finish
+--   played j t ws       the turns of a listing from table t: those of the schedule ws, then those that finish
 --   first_table j, last_table j ws   the table at the start, all its words used, and at the end
---   listed j ws        the text of an accepted job and schedule
---   listing i          the whole text
+--   listed j ws         the text of an accepted job and schedule
+--   listing i           the whole text
 --   room_length i out, room_bytes i out   what a call that is lent `out` answers as the length, and leaves as its bytes
 use Rattle.std.specs.Prelude.{ℕ, ◌+◌, length, take, drop, replicate}
 use mathlib.Core.List.{List, [], ◌∷◌, ◌++◌, flat_map}

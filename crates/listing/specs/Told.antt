@@ -2,9 +2,9 @@
 --   word_of v           the name of a verdict
 --   verdict_line j q    the line of question q that has its claim's verdict; value_line j c   the line of claim c that has its verdict
 --   unopened_line c     the line of a claim that has none
---   Shows j t          what the lines of job j show, whose table is t at the end
+--   Shows j t           what the lines of job j show, whose table is t at the end
 --   Scheduled j ws, Listing j ws   a job with a schedule behind it, and what its listing is
---   Told i             what holds of the listing of input i, whatever its schedule
+--   Told i              what holds of the listing of input i, whatever its schedule
 use Rattle.std.specs.Prelude.{ℕ, ◌+◌, ◌<◌, ◌≤◌, ◌≡◌, length, get_or}
 use mathlib.Core.List.{List, [], ◌∷◌, ◌++◌, flat_map}
 use Rattle.writing.specs.Decimal.{decimal, Decimals}

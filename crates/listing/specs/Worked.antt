@@ -1,7 +1,7 @@
 -- Listings worked out by hand, byte by byte: the one that 01 shows ('The listing program'), and a refusal.
 --   shown            01's input: its job, then its schedule
---   shown_text        the text that 01 shows for it
---   cut_text          the text for no input at all
+--   shown_text       the text that 01 shows for it
+--   cut_text         the text for no input at all
 --   ListingsRight    the theorem: so they are listed (proofs/Worked, computed)
 use Rattle.std.specs.Prelude.{ℕ, List, [], ◌∷◌, ◌++◌, ◌≡◌}
 use Rattle.job.specs.Encoding.{encode}

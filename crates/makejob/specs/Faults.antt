@@ -2,11 +2,11 @@
 --   reach_from st i bs   how far the bytes bs fit that are left at byte i, in state st of the machine that reads a text
 --   reach_of first s     how far line s fits: as the first line, or as any other
 --   is_late s k          line k is a rule and the line before it a question
---   sort_of_byte a b      the fault of byte b behind byte a
---   sort_at_end           that of a line that has nothing behind what fits
+--   sort_of_byte a b     the fault of byte b behind byte a
+--   sort_at_end          that of a line that has nothing behind what fits
 --   sort_in s r feed     that of line s that fits as far as r, with or without a line feed
 --   sort_of s k r        that of line k of text s
---   shown b             a byte as it is shown: `?` for one that can't be printed
+--   shown b              a byte as it is shown: `?` for one that can't be printed
 --   fault_at sort at     the byte at fault, where what fits ends before byte `at`: the first of a rule behind a question
 use Rattle.std.specs.Prelude.{ℕ, ◌+◌, ◌-◌, Bool, false, not, ◌&&◌, List, [], ◌∷◌, eqb, length, get_or}
 use Rattle.base.specs.Choose.{pick}

@@ -2,7 +2,7 @@
 -- line, from 1"; "every line ends in a line feed").
 --   is_feed b           b is a line feed
 --   up_to p s           the bytes of s before the first that passes p; all where none does
---   some p s           a byte of s passes p
+--   some p s            a byte of s passes p
 --   first_at p s i      the place of the first byte of s from i on that passes p; the end where none does
 --   less_at n b         n lines to go, one less behind a line feed
 --   behind_feed s       what stands behind the first line feed; nothing where there is none

@@ -1,8 +1,8 @@
 -- The rules of all claims of a part, written claim by claim. Assumes nothing.
 --   lent_beside, members-few, member_below   what is lent: a place for each claim; no more members than claims; a member is a claim
---   member_text ..                            what is written of the part's claim i
+--   member_text ..                           what is written of the part's claim i
 --   Claiming ..                              those of the first i claims are written
---   claiming-start, -room, -size, -more, -end   none yet; room for one more; the output's length; one more; all
+--   claiming-start, -room, _size, _more, _end   none yet; room for one more; the output's length; one more; all
 use Prim.Native.Nat.{ℕ, ◌+◌, ◌<◌, ◌≤◌}
 use mathlib.Core.Path.{◌≡◌, sym, ◌∙◌, ap}
 use mathlib.Core.Bool.{Bool}

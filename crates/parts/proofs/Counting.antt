@@ -1,7 +1,7 @@
 -- How many literals of a body are of claims in the part. Assumes nothing.
 --   first_in, first_out      the part's literals, by the first one of the body
 --   Counting ..            n of them are before literal k
---   counting-start, -in, -out, -few, -end   none met yet; one more of the part; one more that isn't; how many at most; all
+--   counting-start, _in, _out, -few, _end   none met yet; one more of the part; one more that isn't; how many at most; all
 use Prim.Native.Nat.{ℕ, suc, ◌+◌, ◌-◌, ◌<◌, ◌≤◌}
 use mathlib.Core.Path.{◌≡◌, refl, sym, ◌∙◌, ap}
 use mathlib.Core.Bool.{Bool, true, false}

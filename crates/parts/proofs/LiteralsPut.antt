@@ -1,8 +1,8 @@
 -- The literals of the part, written. Assumes nothing.
 --   put_out, put-plain, put-negated, put-length   one literal of a body: of a claim that isn't in the part; of one that is, plain or negated; its length
 --   Putting ..                      the literals before k are written
---   putting-start, -room, -size, -more, -end    none yet; room for one more; the output's length; one more; all
---   own-fits, -room, -put, -none    the head's own negation behind them, or nothing
+--   putting-start, -room, _size, _more, _end    none yet; room for one more; the output's length; one more; all
+--   own-fits, _room, _put, _none    the head's own negation behind them, or nothing
 use Prim.Native.Nat.{ℕ, ◌+◌, ◌-◌, ◌<◌, ◌≤◌}
 use mathlib.Core.Path.{◌≡◌, refl, sym, ◌∙◌, ap}
 use mathlib.Core.Bool.{Bool, true, false, not, cond}

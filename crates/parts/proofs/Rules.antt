@@ -4,7 +4,7 @@
 --   body_in, own_in, body_out    a body of the part: a literal that is in the part, the head's own negation, and back
 --   Made t place i r r'          rule r of the job makes rule r' of the part's claim i
 --   made_in, made_out, made-head which those are, and their head
---   claim_in, -out, -head        the rules of one claim of the part
+--   claim_in, _out, -head        the rules of one claim of the part
 --   Source j t place ms r'       where rule r' of the part comes from
 --   part_in, part_out            the rules of the part
 --   member-set, number-below, number-back   the claims of a part are numbered

@@ -1,6 +1,6 @@
 -- The first rule whose head is not below a claim, by halving. Assumes nothing.
 --   Seeking s c low high   it is one of those from low to high
---   seeking-start, -byte, -up, -down, -end   any; the bytes of the middle one are there; a later one; none later; found
+--   seeking-start, _byte, -up, _down, _end   any; the bytes of the middle one are there; a later one; none later; found
 use Prim.Native.Nat.{ℕ, ◌+◌, ◌/◌, ◌<◌, ◌≤◌}
 use mathlib.Core.Path.{◌≡◌}
 use mathlib.Core.List.{List}

@@ -2,7 +2,7 @@
 --   inside_is                  a claim is in the part where its place is not 0
 --   lowered_in, -failed, -undecided, -other   what a body becomes by one literal more, by the tests that the code makes
 --   Stating s t place from end n k   the body is what the literals from k on make of one that is n
---   stating-start, -more, -failed, -end   none met yet; one more; a failing one; all
+--   stating-start, _more, -failed, _end   none met yet; one more; a failing one; all
 use Prim.Native.Nat.{ℕ, ◌+◌, ◌<◌, ◌≤◌}
 use mathlib.Core.Path.{◌≡◌, refl, sym, ◌∙◌, ap}
 use mathlib.Core.Bool.{Bool, true, false, not, cond, ◌&&◌}

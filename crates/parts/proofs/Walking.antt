@@ -1,8 +1,8 @@
 -- The rules of one claim, written in one walk over the job's. Assumes nothing.
 --   claim_text ..                  what is written of the rules of claim c from rule a on
---   first-place                   where the literals of its first rule start
---   Walking ..                    those before rule r are written
---   walking_start, -room, -size, -more, -done, -end   none yet; room for one more; the output's length; one more; no more are c's; there are no more
+--   first-place                    where the literals of its first rule start
+--   Walking ..                     those before rule r are written
+--   walking_start, -room, _size, -more, _done, _end   none yet; room for one more; the output's length; one more; no more are c's; there are no more
 use Prim.Native.Nat.{ℕ, zero, suc, ◌+◌, ◌-◌, ◌<◌, ◌≤◌}
 use mathlib.Core.Path.{◌≡◌, refl, sym, ◌∙◌, ap, ap₂, subst}
 use mathlib.Core.Bool.{Bool, cond}

@@ -1,18 +1,18 @@
 -- The part of a job that some claims make, where every other claim that counts is complete: a job of its own, whose claims are numbered in the order in
 -- which they were gathered. In the field's terms: partial evaluation of the rules of one strongly connected component by the answers below it.
---   Numbered place ms      the claims ms, each once; place has where a claim stands in ms + 1, and 0 for the others
---   renumbered place l     literal l, by its claim's number in the part
---   within place l         the claim of l is in the part
---   failing t place l      the claim of l is not in the part, and l is complete and false
---   undecided t place l    the claim of l is not in the part, and undefined
---   standing t place b     no literal of body b is failing
+--   Numbered place ms       the claims ms, each once; place has where a claim stands in ms + 1, and 0 for the others
+--   renumbered place l      literal l, by its claim's number in the part
+--   within place l          the claim of l is in the part
+--   failing t place l       the claim of l is not in the part, and l is complete and false
+--   undecided t place l     the claim of l is not in the part, and undefined
+--   standing t place b      no literal of body b is failing
 --   part_literals place b   the literals of b whose claims are in the part
 --   part_body t place i b   body b of a rule of the part's claim i: these, and i's own negation if a literal of b is undecided
 --   part_rule t place i r   rule r, of the part's claim i; none where it has failed
 --   claim_rules t place i c rs   the rules of the part's claim i, which is c in the job
---   part j t place ms      the part of job j that the claims ms make, by a table t
---   Alone j t place        the part stands alone: its claims are not complete, and a rule of theirs that stands has only literals whose claims are complete or in it
---   PartValues j t ms vs   vs are the values of the claims ms in the model of j in which each claim complete in t has its rules exchanged
+--   part j t place ms       the part of job j that the claims ms make, by a table t
+--   Alone j t place         the part stands alone: its claims are not complete, and a rule of theirs that stands has only literals whose claims are complete or in it
+--   PartValues j t ms vs    vs are the values of the claims ms in the model of j in which each claim complete in t has its rules exchanged
 use Rattle.std.specs.Prelude.{ℕ, ◌+◌, ◌-◌, ◌<◌, ◌≤◌, ◌≡◌, Bool, not, cond, ◌&&◌, ◌||◌, T, eqb, length, get_or}
 use mathlib.Core.List.{List, [], ◌∷◌, ◌++◌, flat_map}
 use Rattle.base.specs.Lists.{upto}

@@ -1,14 +1,14 @@
 -- How the part is written: its records, and then its literals, by the same walk.
 --   literals_in s from end   the literals of job s from one place up to another
---   lowered t place l n     a body's status n once it has met literal l: 0 where l is failing, 1 where it is undecided
+--   lowered t place l n      a body's status n once it has met literal l: 0 where l is failing, 1 where it is undecided
 --   status_of t place b      0 where a literal of body b is failing, else 1 where one is undecided, else 2
 --   literal_bytes b          the bytes of literals
 --   with_own own i b         body b, and i's own negation if that is wanted
 --   text_of what r           what a walk writes of rule r of the part: its record, or else its literals
 --   texts_of what rs         of several
 --   part_of s t place ms     the part, as a job; part_texts   what a walk writes of its rules
---   Beside s place          an accepted job s, and a place for each of its claims
---   First s c r             rule r is the first whose head is not below c
+--   Beside s place           an accepted job s, and a place for each of its claims
+--   First s c r              rule r is the first whose head is not below c
 --   Lent s index t place ms   what the functions are lent: an accepted job s, its index of claims, a table in range, and the claims of a part
 use Rattle.std.specs.Prelude.{ℕ, ◌-◌, ◌<◌, ◌≤◌, ◌≡◌, Bool, not, cond, length}
 use mathlib.Core.List.{List, [], ◌∷◌, ◌++◌, flat_map}

@@ -1,7 +1,7 @@
 -- What the two calls give, by their checks. Assumes nothing.
 --   record-good, started-ready   what accepted rows say; a started table is ready for turns
---   recorded_last, -stop, -then, -all   a recorded run, refused by its last rows or by its first ones, and where they pass
---   replayed_last, -stop, -as   the same of a replay
+--   recorded_last, -stop, _then, -all   a recorded run, refused by its last rows or by its first ones, and where they pass
+--   replayed_last, -stop, _as   the same of a replay
 --   replayed_all, -false   a replay whose pairs all hold, and one with a false pair, whose turns are taken again from a new start
 use Prim.Native.Nat.{ℕ, ◌*◌, ◌≤◌}
 use mathlib.Core.Path.{◌≡◌, refl, sym, ◌∙◌, ap, ap₂, subst}

@@ -1,6 +1,6 @@
 -- The workers of a record, written one by one. Assumes nothing.
 --   Naming                i of them stand in the buffer
---   naming_none, -size, -room, -more, -all   none yet; the buffer's length; room for one; one more; all
+--   naming_none, _size, -room, _more, _all   none yet; the buffer's length; room for one; one more; all
 use Prim.Native.Nat.{ℕ, ◌+◌, ◌*◌, ◌≤◌, ◌<◌}
 use mathlib.Core.Path.{◌≡◌, sym, ◌∙◌, ap, ap₂, subst}
 use mathlib.Core.List.{List, [], ◌∷◌}

@@ -1,6 +1,6 @@
 -- The record of a run, turn by turn: what is written, and what is still to come. Assumes nothing.
 --   Noted           after i turns, with the table t: what stands in the buffer, and where the next pair goes
---   noted_none, -size, -room, -more, -all   nothing yet; the buffer's length; room for a pair; one turn more; all
+--   noted_none, _size, -room, _more, _all   nothing yet; the buffer's length; room for a pair; one turn more; all
 use Prim.Native.Nat.{ℕ, ◌+◌, ◌*◌, ◌≤◌, ◌<◌}
 use mathlib.Core.Path.{◌≡◌, sym, ◌∙◌, ap, ap₂}
 use mathlib.Core.List.{List, [], ◌∷◌, ◌++◌}

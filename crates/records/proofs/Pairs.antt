@@ -1,7 +1,7 @@
 -- The pairs of bytes. Assumes nothing.
 --   workers-length, workers_at   as many workers as pairs; the worker of a pair
 --   pair_at                      what is left of the bytes at a pair
---   gives-yes, gives-no          a pair that is a turn, and one that isn't: its worker, or its kind
+--   gives-yes                    a pair that is a turn; gives-past, gives_other   one that isn't: its worker, or its kind
 --   held_more, held_none, held-few   at a pair that holds, at one that doesn't, and at the end
 use Prim.Native.Nat.{ℕ, zero, suc, ◌+◌, ◌*◌, ◌≤◌, ◌<◌}
 use mathlib.Core.Path.{◌≡◌, refl, sym, ◌∙◌, ap}

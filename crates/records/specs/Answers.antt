@@ -2,9 +2,9 @@
 --   check_buffer, check_odd, check_pairs   rows 25, 23 and 24
 --   record_check, replay_rows, replay_check   the rows of a recorded run; those of a replay before any turn, and all of them
 --   record_table, record_bytes, record_tally  a recorded run: the table at exit, the buffer at exit, the tally
---   held_turns j t r                        the workers of the pairs that hold: the turns that a replay leaves
---   replay_table, replay_tally               a replay: the table at exit, the tally
---   Recorded, Replayed                     what each call gave: its answer r, the table u, and the buffer b
+--   held_turns j t r                          the workers of the pairs that hold: the turns that a replay leaves
+--   replay_table, replay_tally                a replay: the table at exit, the tally
+--   Recorded, Replayed                        what each call gave: its answer r, the table u, and the buffer b
 use Rattle.std.specs.Prelude.{ℕ, ◌*◌, ◌%◌, ◌≡◌, List, ◌++◌, length, take, drop, replicate}
 use Rattle.base.specs.Compare.{under, differs}
 use Rattle.job.specs.Job.{Job}

@@ -1,9 +1,9 @@
 -- The record of a run (02, order 11: "two bytes a turn, worker and kind"), and the pairs of any bytes.
 --   record_of j t ws   the record of the turns ws, taken one after the other from a table t
---   pairs r           how many pairs the bytes r have
+--   pairs r            how many pairs the bytes r have
 --   workers_in r       the workers that its pairs name, in order
---   gives j t w k     worker w and kind k are a turn on the table t: w is below T, and k is the number of its turn's kind
---   held j t r        how many pairs hold before the first false one, each turn taken on the table that those before it leave
+--   gives j t w k      worker w and kind k are a turn on the table t: w is below T, and k is the number of its turn's kind
+--   held j t r         how many pairs hold before the first false one, each turn taken on the table that those before it leave
 use Rattle.std.specs.Prelude.{ℕ, suc, ◌/◌, Bool, not, ◌||◌, List, [], ◌∷◌, length}
 use Rattle.base.specs.Choose.{pick}
 use Rattle.base.specs.Compare.{not_below, differs}

@@ -1,9 +1,9 @@
 -- The five numbers of a size (02, order 12), as folds over its rule sets, and what the call answers.
 --   first_verdict r      claim 0's verdict in the job of set r
---   making v rs         how many of the sets rs make claim 0's verdict v
---   changing ks         how many of the kinds are not idle
+--   making v rs          how many of the sets rs make claim 0's verdict v
+--   changing ks          how many of the kinds are not idle
 --   needed_by j          how many changing turns the questions of job j need until all is answered; turns_for r   those of the job of set r
---   Most                a place and a number of turns; better m k n   the better one of m and the set at place k, which needs n turns
+--   Most                 a place and a number of turns; better m k n   the better one of m and the set at place k, which needs n turns
 --   most_from m k rs     the best one of m and of the sets rs, the first of which is at place k; most_of n   that of all sets of size n
 --   census_of n          the five numbers of size n; numbers_of c   them, in the order of the line
 --   census_answer n      what the call answers

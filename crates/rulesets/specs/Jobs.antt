@@ -1,9 +1,9 @@
 -- The job of a rule set (02, order 12: "when one worker asks every claim in rising number, bodies rising by claim").
---   signed c p         the literal of claim c whose sign in a body is p, or none; body_literals ps   a body's literals, rising by claim
+--   signed c p          the literal of claim c whose sign in a body is p, or none; body_literals ps   a body's literals, rising by claim
 --   chosen_rule h x     the rule of claim h whose choice is x, or none; set_rules r   the rules of a set, by claim
 --   chosen_literals x   the literals of a choice's body, or none
 --   every_claim n       worker 0 asks claims 0 to n - 1
---   job_of_set r         the job of set r: one worker asks every claim
+--   job_of_set r        the job of set r: one worker asks every claim
 use Rattle.std.specs.Prelude.{ℕ, length, get_or}
 use mathlib.Core.List.{List, [], ◌∷◌, map, flat_map}
 use Rattle.base.specs.Lists.{upto}

@@ -1,9 +1,9 @@
 -- The handbook's table (02, order 12: "Print, a line a size, rising, five numbers parted by single spaces").
---   before b n       number n in decimal, with the byte b behind it
+--   before b n        number n in decimal, with the byte b behind it
 --   census_line c     the line of the five numbers c
 --   handbook_table    the lines of the sizes 1, 2 and 3
 --   one_claim, two_claims   the first two of them, byte by byte
---   LinesRight       lines worked out: those two, and one of five different numbers; the table begins with the two
+--   LinesRight        lines worked out: those two, and one of five different numbers; the table begins with the two
 use Rattle.std.specs.Prelude.{ℕ, ◌≡◌, List, [], ◌∷◌, ◌++◌}
 use Rattle.writing.specs.Decimal.{decimal}
 use Rattle.listing.specs.Text.{blank, line_end}

@@ -1,6 +1,6 @@
 -- What the job of a set says, in the order's words and not by how it is made (02, order 12).
 --   Climbs b ls      the literals rise by claim: each claim once at most, none below b
---   sign_of l         the sign that a literal gives its claim
+--   sign_of l        the sign that a literal gives its claim
 --   BodyOf ps ls     ls are the literals of the body ps, rising by claim
 --   OneEach b xs     the rules rise by head: each claim has one at most, none below b has one
 --   RuleOf r x       x is a rule by its head's choice in r; HasRule j c   claim c has a rule in job j

@@ -1,15 +1,15 @@
 -- The rule sets of a size, in the order met (02, order 12: "For 1, 2 and 3 claims, go through all rule sets with at most one rule a claim, each
 -- claim being absent, plain or negated in a body"). In the field's terms: the ground normal programs of n atoms with at most one rule an atom, no
 -- atom twice in a body.
---   Sign                  how a claim stands in a body: absent, plain or negated; signs   these three, in order
---   Choice                a claim's choice: no rule, or the rule with this body, a sign for each claim
+--   Sign                   how a claim stands in a body: absent, plain or negated; signs   these three, in order
+--   Choice                 a claim's choice: no rule, or the rule with this body, a sign for each claim
 --   lists_of xs n          the lists of n elements of xs, the first element turning slowest
 --   all_bodies n           the bodies over n claims; all_choices n   a claim's choices; all_sets n   the rule sets: a choice for each claim
 --   body_no n x            body x of these, from 0; choice_no n v, set_no n k   choice v, set k
 --   number_from f b a xs   the list xs as a number in base b, the first element the leading digit, behind the digits of a
 --   body_number ps         a body as a base-3 number; choice_number x   a choice's place among a claim's; set_number n r   a set's number
 --   choice_count n         how many choices a claim has; set_count n   how many sets there are
---   IsSet n r             r is a rule set of n claims
+--   IsSet n r              r is a rule set of n claims
 use Rattle.std.specs.Prelude.{ℕ, zero, suc, ◌+◌, ◌*◌, ◌^◌, ◌≡◌, length, get_or}
 use mathlib.Core.List.{List, [], ◌∷◌, map, flat_map}
 use Rattle.job.specs.Encoding.{◌∈◌}

@@ -1,8 +1,8 @@
 -- The tables of small fields (specs/Fields) have the verdicts stated for them, by the model, by the job extended for its missing records, and
 -- by greatest unfounded sets: all are computed. Assumes nothing.
 --   fields_right, missing_right   the theorem, of the two tables
---   stated_for                  so of each field
---   layers_right                 fields that stand in layers
+--   stated_for                    so of each field
+--   layers_right                  fields that stand in layers
 use mathlib.Core.Path.{◌≡◌, refl, subst⁻¹}
 use mathlib.Core.List.Memᴰ
 use mathlib.Core.List.{List, [], ◌∷◌, ◌++◌, map, flat_map, head-eq_of_cons-eq, tail-eq_of_cons-eq}

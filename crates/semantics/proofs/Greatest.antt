@@ -2,7 +2,7 @@
 -- reach. Assumes nothing.
 --   witness_more                     more literals in I, more claims in X: more witnesses
 --   founded-closed, founded-least    the laws of what is founded
---   greatest_unfounded                the theorem
+--   greatest_unfounded               the theorem
 --   unfounded_more                   U_P rises with I
 use Prim.Native.Nat.{ℕ, ◌<◌}
 use mathlib.Core.Bool.{Bool, not}

@@ -1,6 +1,6 @@
 -- What holds of the verdicts of a valid job with missing records, and of one without (specs/Missing). Assumes nothing.
---   held, holding    a true claim and the rule that derives it
---   kept             a claim with a missing record is in U
+--   held, holding     a true claim and the rule that derives it
+--   kept              a claim with a missing record is in U
 --   missing_records   the theorem; missing_of   of the job of accepted bytes
 use Prim.Native.Nat.{ℕ, ◌<◌}
 use mathlib.Core.Path.{◌≡◌, refl, ◌∙◌, ap, ap₂, subst, subst⁻¹, fun_ext}

@@ -1,9 +1,9 @@
 -- W_P rises from the empty interpretation, and adds nothing after one step more than there are claims (specs/Textbook: LeastFixpoint).
 -- Assumes nothing.
---   operator         what W_P adds
---   W_more           W_P rises with I
---   after-rises      each step of the iteration holds the one before
---   after-least      an interpretation to which W_P adds nothing holds every step
+--   operator          what W_P adds
+--   W_more            W_P rises with I
+--   after-rises       each step of the iteration holds the one before
+--   after-least       an interpretation to which W_P adds nothing holds every step
 --   least_fixpoint    the theorem
 use Prim.Native.Nat.{ℕ, zero, suc, ◌+◌, ◌≤◌, ◌<◌}
 use mathlib.Core.Path.{fun_ext}

@@ -1,7 +1,7 @@
 -- Exchanging rules outside a closed set changes no verdict inside (specs/Relevance: Relevance), by programs that stand for a part. Assumes nothing.
 --   exchanged-verdict    a claim whose verdict is exchanged has it
 --   closed_same          a closed set, and whatever rules there are outside
---   remaining known bs   the bodies of bs that have not failed by a known verdict; remaining_in, -of   which those are
+--   remaining known bs   the bodies of bs that have not failed by a known verdict; remaining_in, _of   which those are
 --   covered_same         whatever is exchanged outside a covered set: both programs are stood for by one without the rules that have failed
 --   relevance            the theorem
 use Prim.Native.Nat.{ℕ, ◌<◌}

@@ -2,7 +2,7 @@
 --   use_or, path_or    a literal of the program is one of the job's rules, unless a missing record stands for it; so of a path
 --   cause              why a claim is undefined
 --   in-layers-clear    what stands in layers is clear; by-rules   rules that keep to the layers show that it does
---   not_undefined       the theorem
+--   not_undefined      the theorem
 use Prim.Native.Nat.{ℕ, ◌≤◌}
 use mathlib.Core.Path.{◌≡◌, refl, ◌∙◌, subst}
 use mathlib.Core.Bool.{not}

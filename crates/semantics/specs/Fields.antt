@@ -2,12 +2,12 @@
 -- which is computed (proofs/Fields).
 --   Field            rules over some claims, and the verdicts stated for them
 --   fields           P1 to P9; missing_fields   those with missing records
---   field_job f       field f as a job, of one worker without questions
+--   field_job f      field f as a job, of one worker without questions
 --   computed f       the verdicts that the model gives
 --   extendedly f     those that the job extended for its missing records has, by 01 alone
 --   unfoundedly f    those by greatest unfounded sets (02, order 9)
 --   FieldsRight fs   the theorem: the fields of a table are jobs that are accepted, and each of the three gives the verdicts stated for them
---   layered_fields    fields whose claims stand in layers; LayersRight   each rule of them keeps to the layers
+--   layered_fields   fields whose claims stand in layers; LayersRight   each rule of them keeps to the layers
 --   IsField j f      job j has the claims and rules of field f
 use Rattle.std.specs.Prelude.{ℕ, ◌≡◌, Bool, true, List, [], ◌∷◌, map, get_or}
 use Rattle.base.specs.Span.{span}

@@ -9,7 +9,7 @@
 --   Clear j c              among c and all that it leads to none leads back so, and none has a missing record
 --   Layered j c layer      c and all that it leads to stand in layers: a negation leads to a lower layer, and none has a missing record
 --   lower layer c l        literal l leads from claim c to the same layer or a lower one, and to a lower one if it is negated
---   in_layers layer r       so do all literals of rule r, which is no missing record
+--   in_layers layer r      so do all literals of rule r, which is no missing record
 --   NotUndefined j         the theorem
 use Rattle.std.specs.Prelude.{ℕ, ◌<◌, ◌≤◌, ◌≡◌, Bool, not, ◌&&◌, ◌⊎◌, T, leb, ltb}
 use Rattle.base.specs.Graph.{Reach}

@@ -1,15 +1,15 @@
 -- Missing records (02, order 2): "the job so extended", in the order's words, and what holds of the verdicts of a valid job (proofs/Missing).
 -- The model reads such a record as its head's own negation (specs/Model: body_of); that this is what the order says is Extension.
 -- A missing record: a rule whose body is undefined, `c :- undefined` in tabled Prologs.
---   Missing j c         claim c has a missing record
+--   Missing j c          claim c has a missing record
 --   extended_rule u r    rule r; a missing record is the rule of its head whose only literal is u
---   extended j          the job so extended: one claim more, u, whose only rule is its own negation, and each rule so
+--   extended j           the job so extended: one claim more, u, whose only rule is its own negation, and each rule so
 --   as_written j         the program of a job by 01 alone: every body as it stands
---   Extension j         the verdicts of j are those of the job so extended, also with known verdicts exchanged in both
---   HeldBy j c          a rule of c holds: it is no missing record, its plain claims are true and its negated ones false
---   MissingClaims j     a claim with a missing record is true exactly where a rule of it holds, else undefined, and never false
---   NoneMissing j       without missing records the program of j is what it was
---   MissingRecords j    all of these, of job j
+--   Extension j          the verdicts of j are those of the job so extended, also with known verdicts exchanged in both
+--   HeldBy j c           a rule of c holds: it is no missing record, its plain claims are true and its negated ones false
+--   MissingClaims j      a claim with a missing record is true exactly where a rule of it holds, else undefined, and never false
+--   NoneMissing j        without missing records the program of j is what it was
+--   MissingRecords j     all of these, of job j
 use Rattle.std.specs.Prelude.{ℕ, suc, ◌<◌, ◌≤◌, ◌≡◌, true, false, cond, [], ◌∷◌, ◌++◌, map, ◌↔◌}
 use Rattle.std.proofs.Math.Option.{Option, none}
 use Rattle.job.specs.Job.{Rule, Job, ◌if◌}

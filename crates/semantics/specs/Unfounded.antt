@@ -3,7 +3,7 @@
 -- program (specs/Model) and as functions that compute. An atom of the paper is a claim, a subgoal a literal of a body.
 --   paper                     here
 --   partial interpretation    Interpretation       a set of literals; consistent: no claim and its negation are in it
---   true in I, false in I     I l, is_false I l     the literal is in I; its complement is
+--   true in I, false in I     I l, is_false I l    the literal is in I; its complement is
 --   witness of unusability    witness I X l        literal l is false in I, or it is plain and its claim is in X
 --   unfounded set             Unfounded P I X      each rule of each member of X has a witness of unusability
 --   greatest unfounded set    AnyUnfounded P I c   claim c is in the union of all unfounded sets
@@ -13,10 +13,10 @@
 --   U_P(I)                    the greatest unfounded set
 --   W_P(I)                    W P I                T_P(I), and the negations of U_P(I)
 --   I_0, I_1, ..              after P n            W_P applied n times, from the empty set on
---   well-founded model        well_founded P        the least fixpoint of W_P (specs/Textbook: LeastFixpoint)
+--   well-founded model        well_founded P       the least fixpoint of W_P (specs/Textbook: LeastFixpoint)
 --   I ⊑ J                     inclusion of interpretations
---   verdict_by I c             the verdict of claim c by I: true, false, or else undefined
---   unfounded_verdicts P       the verdicts of all claims in order, by well_founded P
+--   verdict_by I c            the verdict of claim c by I: true, false, or else undefined
+--   unfounded_verdicts P      the verdicts of all claims in order, by well_founded P
 use Rattle.std.specs.Prelude.{ℕ, zero, suc, Bool, false, not, cond, ◌||◌, List, T}
 use Rattle.base.specs.Sets.{Claims, iterate}
 use Rattle.base.specs.Span.{span}

@@ -1,5 +1,5 @@
 -- The tests of a claim's words, as the code finds them. Assumes nothing.
---   mark-worker, -between, -past   the cases of a mark
+--   mark-worker, _between, -past   the cases of a mark
 --   marked-yes, -no                a mark other than 0, and a fresh claim
 --   mark_test, cursor_bad, cursor-good, number_test   the tests of claim c from what was read
 use Prim.Native.Nat.{ℕ, ◌<◌, ◌≤◌}

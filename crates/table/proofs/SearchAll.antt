@@ -1,6 +1,6 @@
 -- The search for the newest claim of each worker at once, over the claims in falling order. Assumes nothing.
 --   Sweeping t c m ns    the search over m claims is down to claim c: ns has what it found, for each worker
---   sweeping_none, -best, -more, -same, -all   nothing searched; what one claim more makes of its owner's entry, and of all; one that
+--   sweeping_none, _best, _more, _same, _all   nothing searched; what one claim more makes of its owner's entry, and of all; one that
 --                        no worker owns; all
 --   kept_none, kept_one  no third word is kept yet; one more becomes what the search found
 use Prim.Native.Nat.{ℕ, ◌+◌, ◌-◌, ◌<◌, ◌≤◌}

@@ -1,7 +1,7 @@
 -- The search for the newest of some claims, over the claims in falling order. Assumes nothing.
 --   from c n              the claims from c on, n of them; keep_more, .. keep_end   one claim more or less at their front
 --   Swept t p c m best    the search over m claims is down to claim c: best is the newest of those from c on for which p holds
---   swept_none, -more, -same, -all   nothing searched; one claim more; one that is passed over; all
+--   swept_none, _more, _same, _all   nothing searched; one claim more; one that is passed over; all
 --   owned-yes, owned-no   a claim's owner, by the mark that was read
 --   newer_most            the newer of two claims is at most what both are
 use Prim.Native.Nat.{ℕ, zero, suc, ◌+◌, ◌-◌, ◌<◌, ◌≤◌}

@@ -1,7 +1,7 @@
 -- What a mark shows: the reading of a claim and its value. Assumes nothing.
 --   mark_most        no mark of a table in range is past the last value's
 --   reading-value    the reading of such a mark has the value that the mark shows
---   reading-fresh, -true, -false, -undefined, -open   the reading of each mark
+--   reading-fresh, -true, -false, -undefined, _open   the reading of each mark
 use Prim.Native.Nat.{ℕ, ◌≤◌}
 use mathlib.Core.Path.{◌≡◌, ◌∙◌, ap}
 use mathlib.Core.List.{List}

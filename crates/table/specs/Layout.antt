@@ -6,15 +6,15 @@
 --   answers_from a t      where the words of a claims and t workers end, and those of questions start
 --   answer_at a t k       where the word of question k stands, in such a table
 --   awaited_word j w, ..  the same places in a table of job j
---   Place i              i is small enough to be a word's place in a slice
+--   Place i               i is small enough to be a word's place in a slice
 --   most_words            words enough for the table of every job
---   used j               words used; header j   the first seven words
---   mark t c, ..         what each word holds; opened t   claims opened so far; kept j t w   w's newest open claim + 1, or 0, as the table has it
+--   used j                words used; header j   the first seven words
+--   mark t c, ..          what each word holds; opened t   claims opened so far; kept j t w   w's newest open claim + 1, or 0, as the table has it
 --   true_mark, ..         the marks of complete claims: value_base and a value, which is 1 to most_value
 --   fresh, complete, owned   a claim's state, by its mark. Open: an incomplete table entry; complete: a completed one
 --   value_of m            the value that a mark shows: 1 to 3, or 0 where the claim is not complete
---   mark_of_value v        the mark of a value; mark_of v   the mark of a verdict
---   values j t           a value a claim
+--   mark_of_value v       the mark of a value; mark_of v   the mark of a verdict
+--   values j t            a value a claim
 use Rattle.std.specs.Prelude.{ℕ, ◌+◌, ◌*◌, ◌-◌, ◌<◌, Bool, List, [], ◌∷◌, leb, eqb, length, get_or}
 use Rattle.base.specs.Span.{span}
 use Rattle.job.specs.Job.{Job, most_claims, most_workers, most_questions}

@@ -1,14 +1,14 @@
 -- Each worker's newest open claim: what a search finds, and the word that has it (02, order 3).
 --   is_newer t c d      claim c is newer than claim d
---   newer t c b        the newer of claim c and claim b - 1, + 1; c + 1 where b is 0, for none
---   newest t cs        the newest of some claims + 1, or 0 where there is none
---   sought a t w       what a search over a claims finds: w's newest open claim + 1, or 0 where it owns none
---   Searched a t ns    the numbers ns are what a search over a claims finds, for each worker; none is past the claims
+--   newer t c b         the newer of claim c and claim b - 1, + 1; c + 1 where b is 0, for none
+--   newest t cs         the newest of some claims + 1, or 0 where there is none
+--   sought a t w        what a search over a claims finds: w's newest open claim + 1, or 0 where it owns none
+--   Searched a t ns     the numbers ns are what a search over a claims finds, for each worker; none is past the claims
 --   with_newest a n t   the table t, in which the third word of each of n workers is what a search finds
---   NewestKept j t     in t each is so
---   Older t d c        claim d is c, or c is newer
---   NewestOf t P r     r is the newest of the claims P + 1, or 0 where there are none
---   Owns a t w c       c is one of a claims, and w's
+--   NewestKept j t      in t each is so
+--   Older t d c         claim d is c, or c is newer
+--   NewestOf t P r      r is the newest of the claims P + 1, or 0 where there are none
+--   Owns a t w c        c is one of a claims, and w's
 use Rattle.std.specs.Prelude.{ℕ, zero, suc, ◌+◌, ◌-◌, ◌<◌, ◌≤◌, ◌≡◌, Bool, ◌&&◌, ◌||◌, List, [], ◌∷◌, ltb, eqb, length, get_or, set}
 use Rattle.base.specs.Choose.{pick}
 use Rattle.base.specs.Lists.{upto, keep}

@@ -1,12 +1,12 @@
 -- A worker's questions (01, 'Job bytes': "A worker's questions are put in file order").
 --   positions_of qs k w   where w's questions stand in qs, whose first is at position k
 --   asked_by j w          the positions in the file of w's questions, in order
---   Counted j ns         the numbers ns say how many questions each worker has, and past the workers they are 0
+--   Counted j ns          the numbers ns say how many questions each worker has, and past the workers they are 0
 --   places_from           the places of an index start here, after an entry for each worker and one more; question_entries   all entries
 --   count_in index w      how many questions w has, by an index: from where its places start to where the next worker's do
 --   place_in index w n    where w's question n stands in the file, by an index
---   Ends counts index    entry w is where w's places end, by how many questions each worker has; past the workers too
---   Listed j index       an index of questions: how many each worker has, and where they stand in the file
+--   Ends counts index     entry w is where w's places end, by how many questions each worker has; past the workers too
+--   Listed j index        an index of questions: how many each worker has, and where they stand in the file
 --   claim_asked qs k      the claim of question k
 --   question_claim j w n  the claim of w's question n, from 0
 use Rattle.std.specs.Prelude.{ℕ, zero, suc, ◌+◌, ◌-◌, ◌<◌, ◌≤◌, ◌≡◌, List, [], ◌∷◌, eqb, length, get_or}

@@ -1,10 +1,10 @@
 -- Rows 9 and 10 of the check table (01, 'Checks by place'), and what a table in range is.
---   each f n           the first refusal of f 0, f 1, .., f (n - 1)
+--   each f n            the first refusal of f 0, f 1, .., f (n - 1)
 --   check_room j t      row 9
 --   check_words j t     row 10: the first word that is not as it should be
 --   check_table j t     both
---   InRange j t        the facts of an accepted table but those of the third words, which are `NewestKept` (specs/Newest)
---                      (proofs/Ranges: accepted exactly where both hold)
+--   InRange j t         the facts of an accepted table but those of the third words, which are `NewestKept` (specs/Newest)
+--                       (proofs/Ranges: accepted exactly where both hold)
 use Rattle.std.specs.Prelude.{ℕ, zero, suc, ◌<◌, ◌≤◌, Bool, not, ◌&&◌, ◌||◌, List, ◌≡◌, ◌⊎◌, length, get_or}
 use Rattle.base.specs.Choose.{pick}
 use Rattle.base.specs.Compare.{under, over, differs}

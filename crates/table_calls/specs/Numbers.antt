@@ -3,7 +3,7 @@
 --   of_check c       0 where accepted
 --   of_turn a        the kind's number
 --   of_reading r     0 fresh, 1 true, 2 false, 3 undefined, 4 open
---   copied ns l     the eight counts at the front of a tally that has room for them
+--   copied ns l      the eight counts at the front of a tally that has room for them
 use Rattle.std.specs.Prelude.{ℕ, ◌+◌, ◌*◌, ◌%◌, cond, List, ◌++◌, eqb, ltb, length, get_or, drop}
 use Rattle.base.specs.Span.{span}
 use Rattle.job.specs.declared.Check.{Check}

@@ -1,5 +1,5 @@
 -- The turn of a worker whose newest claim n has a literal left, and what the turns of any worker with an open claim go by. Assumes nothing.
---   to_pass           the claims among which the definition chooses
+--   to_pass          the claims among which the definition chooses
 --   free_left, left-free, ..   the tests of the code, of the definition and of specs/KeptSet say the same
 --   to-pass, of_pass what is chosen among
 --   passes           one of them has a literal left: the turn is that of the newest

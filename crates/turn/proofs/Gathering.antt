@@ -1,8 +1,8 @@
 -- The loop of `gather`: a queue, of which the part from i on holds all that is met and not yet looked at. Assumes nothing.
 --   passed-met        the literals that a claim has passed, as the index and the table's cursor give them
 --   passed-room       meeting their claims stays within job, table and queue
---   leads_parts, -of  what a claim leads to is what a walk over its passed literals meets
---   Gathering         what the loop keeps, with its laws: gathering-start, -more, -done
+--   leads_parts, _of  what a claim leads to is what a walk over its passed literals meets
+--   Gathering         what the loop keeps, with its laws: gathering-start, _more, _done
 use Prim.Native.Nat.{ℕ, ◌+◌, ◌-◌, ◌≤◌, ◌<◌}
 use mathlib.Core.Path.{◌≡◌, refl, sym, ◌∙◌, ap, ap₂, subst, subst⁻¹}
 use mathlib.Core.Bool.{false, not, ◌||◌}

@@ -1,6 +1,5 @@
 -- Laws of the kept set (specs/KeptSet). Assumes nothing.
---   Dropping            a loop that takes the places of the members away: dropping-start, -more, -done
---   set-low             what is in the set is a claim
+--   Dropping            a loop that takes the places of the members away: dropping-start, _more, _done
 --   some-kept           a set with a member is kept
 --   nothing-keeps       nothing is kept
 --   gathered-keeps      what was gathered into an empty set

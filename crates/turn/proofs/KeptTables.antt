@@ -1,7 +1,6 @@
 -- The kept set beside another table: what a turn may change without changing it, and how it is after a claim has passed a literal. Assumes nothing.
 --   Grows j c t t'      claims may have passed more literals in t' than in t; the marks are alike: no claim has become complete
 --   leads_grow          what is led to is still led to
---   same-reached        where nothing more is led to, the same is reached
 --   still-keeps         then the set is right still: `same-found` where numbers are the same too, and else the next claim is forgotten
 --   lacking-keeps       where claim c leads to b besides
 use Prim.Native.Nat.{ℕ, ◌-◌, ◌≤◌, ◌<◌}

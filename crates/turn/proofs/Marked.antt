@@ -1,5 +1,5 @@
 -- Marks stored at the claims of a set, in any order (`Marked`, specs/KeptSet). Assumes nothing.
---   marked_none, -more   at no claim; at one claim more
+--   marked_none, _more   at no claim; at one claim more
 --   marked_like          another set with the same claims, and marks that are equal there
 --   marked_list          at the claims of a list
 --   marked_one           there is one such table only, where membership is decided

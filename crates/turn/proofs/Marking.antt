@@ -1,10 +1,10 @@
 -- Marks stored at the members of a set, one after the other. Assumes nothing.
 --   ToTake ms t i d   d is one of the first i members, and not fresh
 --   Taking ms t n w i u   u is t, but those of the first i of n members that are not fresh are w's
---   taking_none, -more, -same, -all   no member yet; one more; one that is fresh; all
+--   taking_none, _more, _same, _all   no member yet; one more; one that is fresh; all
 --   Valued ms vs f   f gives each member the mark of its value
 --   Giving ms vs t i u   u is t, but the first i members have the marks of their values
---   giving_none, -more, -all   no member yet; one more; all
+--   giving_none, _more, _all   no member yet; one more; all
 use Prim.Native.Nat.{ℕ, ◌+◌, ◌<◌, ◌≤◌}
 use mathlib.Core.Path.{◌≡◌, refl, sym, ◌∙◌, ap}
 use mathlib.Core.Logic.{◌⊎◌, inl, inr, ⊎_elim, by_cases}

@@ -1,5 +1,5 @@
 -- The first n members of a list (`Member`, `Places`, specs/KeptSet). Assumes nothing.
---   member_none, -up, -last, -cases   no member; one member more, from the fewer and back
+--   member_none, -up, _last, -cases   no member; one member more, from the fewer and back
 --   Low t b        what b counts has words in the table
 --   member-low     a member has; newest-low   and so has the newest of some of them
 use Prim.Native.Nat.{ℕ, ◌+◌, ◌≤◌}

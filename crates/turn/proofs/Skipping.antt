@@ -1,5 +1,5 @@
 -- Whether the rule of a claim's next literal has failed, as the code finds it, and the turn that skips the rest of it (02, order 5). Assumes nothing.
---   Looking          a look back from the next literal over its rule: none of those looked at is false. Its laws: looking-start, -more, and what
+--   Looking          a look back from the next literal over its rule: none of those looked at is false. Its laws: looking-start, _more, and what
 --                    is found: found_none (the claim's first literal is reached), found-other (the rule's first), found-failed (a false one)
 --   pass-skipped     the turn where an earlier literal of the rule is complete and false: the cursor past the rule; skip-low   its place is small
 --   pass-clear       none is, where none was found

@@ -2,9 +2,9 @@
 --   passed_is      the test of a claim that has passed all its literals
 --   LeftOf index t ms w i d   d is one of the first i members, w's, and has a literal left
 --   Swept index t ms n w i best   best is the newest of these + 1, or 0, the members being n
---   swept_none, -more, -same, -all   nothing swept; one claim more; one that is passed over; all; swept-low   best has words in the table
+--   swept_none, _more, _same, _all   nothing swept; one claim more; one that is passed over; all; swept-low   best has words in the table
 --   found-still    the claim that was found last is the newest still
---   Owning t w ms n i   the first i of n members are w's; owning_none, -more, -not, -all   nothing swept; one claim more; one that isn't; all
+--   Owning t w ms n i   the first i of n members are w's; owning_none, _more, -not, _all   nothing swept; one claim more; one that isn't; all
 use Prim.Native.Nat.{ℕ, ◌+◌, ◌-◌, ◌<◌, ◌≤◌}
 use mathlib.Core.Path.{◌≡◌, refl, sym, ◌∙◌, ap, subst}
 use mathlib.Core.Logic.{inl, inr, ⊎_elim}

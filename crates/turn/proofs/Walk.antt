@@ -1,9 +1,9 @@
 -- A walk over the literals that a claim has passed, past the end of each rule that has failed (02, order 5). Assumes nothing.
---   onward_more, -end   each step moves on, and keeps the end
+--   onward_more, _end   each step moves on, and keeps the end
 --   met_first, met_none   the claims met, one by one
 --   lit_is, end_is   the job's literal a + i is c's literal i, and the index has its rule's end
 --   met_in, in-met   whose claims are met: of literals that stand behind none
---   failed_is, failed-low, onward-yes, onward-no   by the tests that the code makes
+--   onward-yes, onward-no   by the tests that the code makes
 use Prim.Native.Nat.{ℕ, zero, suc, ◌+◌, ◌-◌, ◌≤◌, ◌<◌}
 use mathlib.Core.Path.{◌≡◌, refl, sym, ◌∙◌, ap, subst}
 use mathlib.Core.Logic.{by_cases}

@@ -1,6 +1,5 @@
 -- The worked turns (specs/Worked) are of the kinds stated for them, and leave the tables stated: computed. Assumes nothing.
 --   turns_right         the theorem
---   case-kinds, case_left   so of each case
 use mathlib.Core.Path.{refl}
 use mathlib.Core.List.{flat_map}
 use Rattle.base.specs.Choose.{pick}

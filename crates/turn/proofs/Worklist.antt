@@ -1,12 +1,12 @@
 -- Laws of `visits`: what meeting claims does to the worklist. Assumes nothing.
 --   Stands k d           d stands in the queue
 --   Grown t n bs k k'    how the worklist k became k' when the claims bs were met, of n claims
---   visit-there, -push   one claim met, by the tests that the code makes
+--   visit-there, _push   one claim met, by the tests that the code makes
 --   place-some, some-place, placed-yes, placed-no, member_in   what is in the set has a place, and the other way; so has a member
 --   push-room            where there is room in the queue
 --   pushed k b           the set with b, which was not in it: pushed-gathered
 --   visits-grown         the claims bs met, in order
---   Expanding            a loop over a cursor's claims, with its laws: expanding-start, -less, -more, -done
+--   Expanding            a loop over a cursor's claims, with its laws: expanding-start, _less, _more, _done
 use Prim.Native.Nat.{ℕ, ◌+◌, ◌-◌, ◌≤◌, ◌<◌}
 use mathlib.Core.Path.{◌≡◌, refl, sym, ◌∙◌, ap, subst, subst⁻¹}
 use mathlib.Core.Bool.{true, false, not}

@@ -1,8 +1,8 @@
 -- What the functions below the calls are lent once the checks have passed.
---   Ready s index t      an accepted job s, its index of claims, and a table t in range, with right third words
+--   Ready s index t       an accepted job s, its index of claims, and a table t in range, with right third words
 --   passed_in index t c   c has passed all its literals, by the index: its cursor is at the end
---   Made r kind t        a turn was made as the definition r says: its kind, and the table at exit
---   Renewed j w t u      the table u is t with w's third word as a search finds it
+--   Made r kind t         a turn was made as the definition r says: its kind, and the table at exit
+--   Renewed j w t u       the table u is t with w's third word as a search finds it
 use Rattle.std.specs.Prelude.{ℕ, ◌+◌, Bool, List, ◌≡◌, leb, get_or, set}
 use Rattle.job.specs.Job.{Job}
 use Rattle.job.specs.Format.{job_of}

@@ -1,21 +1,21 @@
 -- A turn of worker w on the words t of a table of job j (01, 'A turn of worker w'), defined for every table in range.
---   Turned            a turn's kind, and the table it leaves
+--   Turned             a turn's kind, and the table it leaves
 --   kind_number k      01's number of a kind
---   lits j c          the claims of c's literals, over its rules in file order
+--   lits j c           the claims of c's literals, over its rules in file order
 --   lit_at j c k       c's literal k, from 0
---   clear j t c k     no literal before c's literal k, of its rule, is complete and false (such a one makes the rule's body false)
+--   clear j t c k      no literal before c's literal k, of its rule, is complete and false (such a one makes the rule's body false)
 --   skip_end j t c     where the rule of c's next literal ends among c's literals
---   leading j t c k   c has passed its literal k, and it stands behind no false one
---   leads j t c       what c leads to; reached j t c   all that is reached from c, in rising order
+--   leading j t c k    c has passed its literal k, and it stands behind no false one
+--   leads j t c        what c leads to; reached j t c   all that is reached from c, in rising order
 --   all_passed j t c   c has passed all its literals
 --   completed_mark     the mark that completion gives
 --   open_claim t w c   c becomes open to w
 --   mark_all f cs t    the claims cs get the marks f
---   meets n j t w v   from v along the owners of awaited claims, at most n moves, w is met (following suspended workers)
+--   meets n j t w v    from v along the owners of awaited claims, at most n moves, w is met (following suspended workers)
 --   ask_turn, work_turn, pass_turn   the second, third and fourth bullet; base_turn j t w   the whole turn as 01 has it
---   keeping j r       the turn r, and then every worker's third word is what a search finds
---   turn j t w        a turn
---   run_table, run_kinds            turns one after the other
+--   keeping j r        the turn r, and then every worker's third word is what a search finds
+--   turn j t w         a turn
+--   run_table, run_kinds             turns one after the other
 -- Awaiting: suspended. Taking over: usurpation.
 use Rattle.std.specs.Prelude.{ℕ, zero, suc, ◌+◌, ◌-◌, Bool, true, false, not, ◌&&◌, List, [], ◌∷◌, map, leb, ltb, eqb, length, get_or, set}
 use Rattle.base.specs.Choose.{pick}

@@ -1,6 +1,6 @@
 -- Worked turns: jobs, tables and turns small enough to follow by hand, in one table, with one theorem, which is computed (proofs/Worked).
 --   Case            a job, the words of a table, the workers that take turns; the kinds of their turns and the table they leave
---   table_of         a table's words by their parts; claim, worker   the words of a claim and of a worker
+--   table_of        a table's words by their parts; claim, worker   the words of a claim and of a worker
 --   two, three      01's examples; the others are of orders 5 and 2 (02)
 --   Fault           a case in which an engine with a certain fault would leave another table: in one word of it another number
 --   faults          01's 'Faults we have seen in rule engines', cursors restarted at takeover, and third words that aren't kept right

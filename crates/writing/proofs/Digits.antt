@@ -1,6 +1,6 @@
 -- Digits written from the last to the first. Assumes nothing.
 --   Partly buf₀ at n buf e rest   the digits of n from place e on are written, those of `rest` are to come before e
---   partly-start, -more, -whole   none written; one more; all
+--   partly-start, _more, -whole   none written; one more; all
 use Prim.Native.Nat.{ℕ, suc, ◌+◌, ◌-◌, ◌/◌, ◌%◌, ◌≤◌, ◌<◌}
 use mathlib.Core.Path.{◌≡◌, refl, sym, ◌∙◌, ap}
 use mathlib.Core.List.{List, ◌∷◌, ◌++◌}

@@ -1,6 +1,6 @@
 -- A text written part by part: what stands there so far, and what is still to come. Assumes nothing.
 --   Onward ..      `all` is written at `at₀` of `buf₀` up to `rest`, and `buf` and `at` are how far that is
---   onward-start, -room, -more, -end   nothing yet; there is room for the rest; one part more; all
+--   onward-start, -room, _more, _end   nothing yet; there is room for the rest; one part more; all
 use Prim.Native.Nat.{ℕ, ◌+◌, ◌≤◌}
 use mathlib.Core.Path.{◌≡◌, refl, sym, ◌∙◌, ap}
 use mathlib.Core.List.{List, [], ◌++◌, append-nil, append_assoc}

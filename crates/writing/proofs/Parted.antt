@@ -1,6 +1,6 @@
 -- A part of the output for each element of a list, one after the other. Assumes nothing.
 --   Parted f ..     the parts of the first i elements of xs are written
---   parted-start, -room, -size, -more, -end   none yet; room for one more; the output's length; one more; all
+--   parted-start, -room, _size, _more, _end   none yet; room for one more; the output's length; one more; all
 --   flat-length    how long parts of equal length are together
 --   flat_same      the same parts by another name
 --   flat-map       the parts of elements that were made of others; map_flat   parts, each element of which is made another

@@ -4,7 +4,7 @@
 --   wrote_laws                     specs/Written: Wrote
 --   put_none, put_put, put_size    the same, of what a function that writes ensures
 --   put_as                         the text by another name
---   copy_start, -more, -whole      a text copied from the front: nothing yet; one byte more; all
+--   copy_start, _more, -whole      a text copied from the front: nothing yet; one byte more; all
 --   from_back                      a text known by the bytes before it and those from it on
 --   put-part, put_front            a text that was written, as a part of the buffer
 --   rest_all                       a slice from a place on

@@ -2,9 +2,9 @@
 --   refusal_code number place   2^63 + place for number 1, whose place is a length; else number · 2^32 + place
 --   code_of a check             accepted: the number of claims a; refused: the refusal's code
 --   read_code code              what a reader makes of a code
---   Told number place          the refusals that a code can carry
---   Answered s check           the answers on a job s that a code can carry
---   Coded s check r            r is the code of an answer on job s, and the answer is read back from it
+--   Told number place           the refusals that a code can carry
+--   Answered s check            the answers on a job s that a code can carry
+--   Coded s check r             r is the code of an answer on job s, and the answer is read back from it
 use Rattle.std.specs.Prelude.{ℕ, ◌+◌, ◌*◌, ◌/◌, ◌%◌, ◌-◌, ◌<◌, ◌≤◌, ◌≡◌, cond, List, eqb, ltb, length}
 use Rattle.job.specs.Format.{claims}
 use Rattle.job.specs.declared.Check.{Check}

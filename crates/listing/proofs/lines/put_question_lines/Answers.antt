@@ -1,4 +1,3 @@
-use Prim.Native.Nat.{◌-◌}
 use native.Mathlib.Omega.{arith}
 use Rattle.listing.proofs.Runs.{run_size, first_none, first_more, first-whole}
 use Rattle.listing.proofs.lines.put_question_lines.Goals as goal

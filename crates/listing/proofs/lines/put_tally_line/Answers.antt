@@ -1,4 +1,3 @@
-use Prim.Native.Nat.{◌-◌}
 use native.Mathlib.Omega.{arith}
 use Rattle.listing.proofs.Runs.{run_size, counts_none, counts-more, counts_whole}
 use Rattle.listing.proofs.lines.put_tally_line.Goals as goal
