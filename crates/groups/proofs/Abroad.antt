@@ -1,57 +1,24 @@
 -- The claims that lead abroad are exactly those that lead to a foreign claim (specs/Groups: abroad). Assumes nothing.
---   foreign_open, open-foreign   the test of a claim, and what it says
 --   abroad-to, to-abroad         from the set to the way, and back
 --   permitted, not-abroad        the same of a question
 use Prim.Native.Nat.{ℕ, zero, suc, ◌<◌}
-use mathlib.Core.Path.{◌≡◌, refl, sym, ◌∙◌, ap, subst, subst⁻¹}
-use mathlib.Core.Bool.{Bool, false, not, ◌&&◌}
+use mathlib.Core.Path.{◌≡◌, refl, subst, subst⁻¹}
+use mathlib.Core.Bool.{false}
 use mathlib.Core.List.Memᴰ
 use mathlib.Core.List.{List, [], ◌∷◌}
-use mathlib.Core.Logic.{⊎_elim, by_cases}
-use native.Mathlib.Decide.{ℕ_discrete}
-use lib.Dec.{T, eqb, ltb, ltb→lt, lt→ltb}
-use lib.ListN.{get_or}
-use Rattle.base.specs.Compare.{differs}
+use mathlib.Core.Logic.{⊎_elim}
+use lib.Dec.{T, ltb, ltb→lt, lt→ltb}
 use Rattle.base.specs.Graph.{here, step}
 use Rattle.base.specs.Sets.{Claims, ◌⊆◌, iterate}
-use Rattle.base.proofs.Bools.{is, is-not, is_false, and_in, and_left, and_right, or_left, or_right, or_cases, or_map}
-use Rattle.base.proofs.Compare.{differs-yes, differs-no}
+use Rattle.base.proofs.Bools.{is-not, is_false, and_in, and_left, and_right, or_left, or_right, or_cases, or_map}
 use Rattle.base.proofs.Sets.{iterate-closed}
 use Rattle.job.specs.Encoding.{◌∈◌, Valid}
 use Rattle.job.specs.Job.{Job, claim_of, literals_of}
 use Rattle.job.specs.declared.Literal.{Literal}
 use Rattle.semantics.specs.Leads.{LeadsTo}
 use Rattle.semantics.proofs.Leads.{used, uses-literal, leads-low}
-use Rattle.groups.specs.Groups.{Open, public, own, MayPut, foreign, leaves, nearer, abroad}
-
-module _ (gs : List ℕ) (g c : ℕ) where
-  abbrev unpublished : Bool
-  unpublished = differs (get_or gs c 0) 0
-
-  abbrev other : Bool
-  other = differs (get_or gs c 0) g
-
-  pub foreign_open : (T (foreign gs g c) → ⊥) → Open gs g c
-  unfolding foreign
-  foreign_open n =
-      by_cases (ℕ_discrete (get_or gs c 0) 0) public
-      (λ a. by_cases (ℕ_discrete (get_or gs c 0) g) own
-      (λ b. absurd (n (and_in unpublished other (is _ (differs-yes _ _ a)) (is _ (differs-yes _ _ b))))))
-
-  pub open-foreign : Open gs g c → T (foreign gs g c) → ⊥
-  unfolding foreign
-  open-foreign (public e) t = is-not _ (differs-no (get_or gs c 0) 0 e) (and_left unpublished other t)
-  open-foreign (own e) t = is-not _ (differs-no (get_or gs c 0) g e) (and_right unpublished other t)
-
-  -- by the byte that the code reads and tests
-  module _ (x : ℕ) (read : x ≡ get_or gs c 0) where
-    pub foreign-public : x ≡ 0 → false ≡ foreign gs g c
-    unfolding foreign
-    foreign-public e = sym (ap (λ (b : Bool). b && other) (differs-no (get_or gs c 0) 0 (sym read ∙ e)))
-
-    pub foreign_else : (x ≡ 0 → ⊥) → not (eqb x g) ≡ foreign gs g c
-    unfolding foreign differs
-    foreign_else n = ap (λ (y : ℕ). not (eqb y g)) read ∙ sym (ap (λ (b : Bool). b && other) (differs-yes (get_or gs c 0) 0 (λ e. n (read ∙ e))))
+use Rattle.groups.specs.Groups.{MayPut, foreign, leaves, nearer, abroad}
+use Rattle.groups.proofs.Foreign.{foreign_open, open-foreign}
 
 leaves_by : (W : Claims) (ls : List Literal) → T (leaves W ls) → (l : Literal) × l ∈ ls × T (W (claim_of l))
 unfolding leaves

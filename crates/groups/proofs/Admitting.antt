@@ -28,7 +28,8 @@ use Rattle.job.proofs.Rows.{pass, stop, go, halt, scan_none, scan_at}
 use Rattle.job.proofs.Valid.{well_formed-valid}
 use Rattle.groups.specs.Groups.{MayPut, foreign, group_of, asked, asker_group, bad_question, check_lists, check_partners, admit_check}
 use Rattle.groups.specs.Admission.{Permitted, LeadsAbroad, Answer, first as rows_first, claims_list, workers_list, question, admitted}
-use Rattle.groups.proofs.Abroad.{foreign_open, open-foreign, abroad-to, to-abroad, permitted, not-abroad}
+use Rattle.groups.proofs.Foreign.{foreign_open, open-foreign}
+use Rattle.groups.proofs.Abroad.{abroad-to, to-abroad, permitted, not-abroad}
 
 module _ (s gs ws : List ℕ) where
   lists-right : length gs ≡ claims s → length ws ≡ workers s → Accepted ≡ check_lists s gs ws

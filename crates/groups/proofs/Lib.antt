@@ -1,4 +1,5 @@
 pub mod Leading
+pub mod Foreign
 pub mod Abroad
 pub mod Relevant
 pub mod Worked

@@ -22,7 +22,8 @@ use Rattle.semantics.specs.Missing.{as_written}
 use Rattle.semantics.specs.Leads.{Leads, LeadsTo}
 use Rattle.groups.specs.Groups.{Open, public, own, foreign, abroad}
 use Rattle.groups.specs.Scopes.{scope, settled, narrow, narrowed, Work, pushed, visit, Fits, Right, Known, Looked, right, waits, Searching}
-use Rattle.groups.proofs.Abroad.{foreign_open, to-abroad, not-abroad}
+use Rattle.groups.proofs.Foreign.{foreign_open}
+use Rattle.groups.proofs.Abroad.{to-abroad, not-abroad}
 use Rattle.groups.proofs.Scopes.{settled-own, settled-public, settled-cases, narrow_first, narrowed-settled, narrowed-cases, narrowed-two, visit-elim, scope-there, scope-other, pushed-there, pushed-keeps, queue-there, queue-other, narrowed-kept}
 
 -- what is open to two groups is public

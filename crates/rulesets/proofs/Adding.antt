@@ -1,65 +1,34 @@
 -- How many sets make claim 0 true, false, undefined: each set is counted for one verdict, its own. Assumes nothing.
 --   making_is, making-only   specs/Laws: Making, of what is counted, and of no other number
 --   adds-up                  the three counts add up to all sets
-use Prim.Native.Nat.{ℕ, suc, ◌+◌}
+use Prim.Native.Nat.{ℕ, ◌+◌}
 use mathlib.Core.Path.{◌≡◌, refl, ◌∙◌, ap}
 use mathlib.Core.List.{List, [], ◌∷◌}
 use mathlib.Core.Logic.{by_cases}
 use native.Mathlib.Decide.{ℕ_discrete}
 use native.Mathlib.Omega.{arith}
-use borrow.Author.Tests.{eq-eqb, ne_eqb}
-use lib.Dec.{eqb}
 use lib.ListN.{length}
-use Rattle.base.specs.Choose.{pick}
 use Rattle.semantics.specs.Model.{Verdict, True, False, Undefined, byte_of}
 use Rattle.rulesets.specs.Sets.{Choice, all_sets, set_count}
 use Rattle.rulesets.specs.Census.{first_verdict, making}
 use Rattle.rulesets.specs.Laws.{Making, none, this, other}
 use Rattle.rulesets.proofs.Listed.{sets_count}
-
--- verdicts are told apart by their bytes
-byte_one : (v w : Verdict) → byte_of v ≡ byte_of w → v ≡ w
-byte_one True True e = refl
-byte_one True False e = absurd (omega (arith, e))
-byte_one True Undefined e = absurd (omega (arith, e))
-byte_one False True e = absurd (omega (arith, e))
-byte_one False False e = refl
-byte_one False Undefined e = absurd (omega (arith, e))
-byte_one Undefined True e = absurd (omega (arith, e))
-byte_one Undefined False e = absurd (omega (arith, e))
-byte_one Undefined Undefined e = refl
+use Rattle.rulesets.proofs.OneMore.{byte_one, one_more, none_more, one_each}
 
 module _ (v : Verdict) where
-  one_more : (r : List Choice) (rs : List (List Choice)) → first_verdict r ≡ v → making v (r ∷ rs) ≡ suc (making v rs)
-  unfolding making pick
-  one_more r rs e = rw (eq-eqb (byte_of (first_verdict r)) (byte_of v) (ap byte_of e)) (omega arith)
-
-  none_more : (r : List Choice) (rs : List (List Choice)) → (first_verdict r ≡ v → ⊥) → making v (r ∷ rs) ≡ making v rs
-  unfolding making pick
-  none_more r rs n = rw (ne_eqb (byte_of (first_verdict r)) (byte_of v) (λ e. n (byte_one (first_verdict r) v e))) (omega arith)
-
   pub making_is : (rs : List (List Choice)) → Making v rs (making v rs)
   unfolding making
   making_is [] = none
   making_is (r ∷ rs) =
       by_cases (ℕ_discrete (byte_of (first_verdict r)) (byte_of v))
-      (λ e. let q = byte_one (first_verdict r) v e in rw (one_more r rs q) (this r rs (making v rs) q (making_is rs)))
-      (λ n. let q : first_verdict r ≡ v → ⊥ = λ e. n (ap byte_of e) in rw (none_more r rs q) (other r rs (making v rs) q (making_is rs)))
+      (λ e. let q = byte_one (first_verdict r) v e in rw (one_more v r rs q) (this r rs (making v rs) q (making_is rs)))
+      (λ n. let q : first_verdict r ≡ v → ⊥ = λ e. n (ap byte_of e) in rw (none_more v r rs q) (other r rs (making v rs) q (making_is rs)))
 
   pub making-only : {rs : List (List Choice)} {k : ℕ} → Making v rs k → k ≡ making v rs
   unfolding making
   making-only none = refl
-  making-only (this r rs k e m) = omega (arith, making-only m, one_more r rs e)
-  making-only (other r rs k n m) = omega (arith, making-only m, none_more r rs n)
-
-abbrev one_of : Verdict → Verdict → ℕ
-one_of v w = pick (eqb (byte_of v) (byte_of w)) 1 0
-
-one_each : (v : Verdict) → one_of v True + one_of v False + one_of v Undefined ≡ 1
-unfolding pick
-one_each True = refl
-one_each False = refl
-one_each Undefined = refl
+  making-only (this r rs k e m) = omega (arith, making-only m, one_more v r rs e)
+  making-only (other r rs k n m) = omega (arith, making-only m, none_more v r rs n)
 
 all_made : (rs : List (List Choice)) → making True rs + making False rs + making Undefined rs ≡ length rs
 unfolding making

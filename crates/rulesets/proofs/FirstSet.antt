@@ -4,47 +4,18 @@
 use Prim.Native.Nat.{ℕ, suc, ◌+◌, ◌<◌, ◌≤◌}
 use mathlib.Core.Path.{◌≡◌, refl, sym, ◌∙◌, ap, subst}
 use mathlib.Core.List.{List, [], ◌∷◌}
-use mathlib.Core.Logic.{◌⊎◌, inl, inr, ⊎_elim, by_cases}
+use mathlib.Core.Logic.{inr, ⊎_elim, by_cases}
 use native.Mathlib.Nat.{one-le-pow}
-use native.Mathlib.Decide.{ℕ_discrete, dec_lt}
+use native.Mathlib.Decide.{dec_lt}
 use native.Mathlib.Omega.{arith}
 use lib.ListN.{length, get_or}
-use Rattle.base.specs.Compare.{under}
-use Rattle.base.proofs.Choose.{pick_both}
-use Rattle.base.proofs.Compare.{under_le, under_lt}
 use Rattle.rulesets.specs.Sets.{Choice, all_sets, set_no, choice_count, set_count}
 use Rattle.rulesets.specs.Census.{Most, better, most_from, most_of, turns_for}
 use Rattle.rulesets.specs.Laws.{FirstMost}
 use Rattle.rulesets.proofs.Listed.{sets_count}
-
--- the best of the places before k, where the set at place i needs t i turns
-record Best (t : ℕ → ℕ) (k : ℕ) (m : Most) : Type 0 where
-  most : (i : ℕ) → i < k → t i ≤ m.turns
-  first : (i : ℕ) → i < m.place → t i < m.turns
-  is : ((m.place < k) × (t m.place ≡ m.turns)) ⊎ ((k ≡ 0) × (m.place ≡ 0) × (m.turns ≡ 0))
-
-below_next : (P : ℕ → Type 0) (k : ℕ) → ((i : ℕ) → i < k → P i) → P k → (i : ℕ) → i < k + 1 → P i
-below_next P k f p i h = by_cases (ℕ_discrete i k) (λ e. subst P (sym e) p) (λ n. f i (omega (arith, n)))
+use Rattle.rulesets.proofs.Better.{Best, step}
 
 module _ (t : ℕ → ℕ) where
-  step : (k : ℕ) (m : Most) (n : ℕ) → n ≡ t k → Best t k m → Best t (k + 1) (better m k n)
-  unfolding better
-  step k m n e b =
-      pick_both (Best t (k + 1)) (under m.turns n) _ _
-      (λ y.
-      let l : m.turns < n = under_lt m.turns n y in
-      record { most = below_next (λ i. t i ≤ n) k (λ i h. omega (arith, b.most i h)) (omega arith); first = λ i h. omega (arith, b.most i h); is = inl (omega arith, sym e) })
-      (λ y.
-      let l : n ≤ m.turns = under_le m.turns n y in
-      record {
-        most = below_next (λ i. t i ≤ m.turns) k b.most (omega arith);
-        first = b.first;
-        is = inl (⊎_elim (λ q. (omega (arith, q.0), q.1)) (λ q. (omega (arith, q.0, q.1), zeroth k m n e l q)) b.is);
-      })
-    where
-      zeroth : (k : ℕ) (m : Most) (n : ℕ) → n ≡ t k → n ≤ m.turns → (k ≡ 0) × (m.place ≡ 0) × (m.turns ≡ 0) → t m.place ≡ m.turns
-      zeroth k m n e l q = let p : m.place ≡ k = omega (arith, q.0, q.1) in omega (arith, ap t p, q.2)
-
   along : (rs : List (List Choice)) (k : ℕ) (m : Most) → ((i : ℕ) → i < length rs → t (k + i) ≡ turns_for (get_or rs i [])) → Best t k m → Best t (k + length rs) (most_from m k rs)
   unfolding most_from
   along [] k m f b = let e : k ≡ k + 0 = omega arith in subst (λ (x : ℕ). Best t x m) e b
@@ -53,7 +24,7 @@ module _ (t : ℕ → ℕ) where
       let e : k + 1 + length rs ≡ k + suc (length rs) = omega arith in
       subst (λ (x : ℕ). Best t x (most_from (better m k (turns_for r)) (k + 1) rs)) e
       (along rs (k + 1) (better m k (turns_for r)) (λ i h. let q : k + 1 + i ≡ k + suc i = omega arith in ap t q ∙ f (suc i) (omega arith))
-      (step k m (turns_for r) (sym (f 0 (omega arith)) ∙ ap t z) b))
+      (step t k m (turns_for r) (sym (f 0 (omega arith)) ∙ ap t z) b))
 
 pub first-most : (n : ℕ) → FirstMost n (most_of n).place (most_of n).turns
 first-most n =

@@ -1,6 +1,8 @@
 pub mod Numbering
 pub mod Listed
+pub mod OneMore
 pub mod Adding
+pub mod Better
 pub mod FirstSet
 pub mod Answering
 pub mod Needing

@@ -1,4 +1,4 @@
-use Rattle.groups.proofs.Abroad.{foreign-public, foreign_else}
+use Rattle.groups.proofs.Foreign.{foreign-public, foreign_else}
 use Rattle.groups.proofs.search.is_foreign.Goals as goal
 
 pub returns-then-own-eq0 : goal.returns-then-own-eq0
