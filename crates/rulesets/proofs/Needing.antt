@@ -12,7 +12,7 @@ use Rattle.base.specs.Choose.{pick}
 use Rattle.job.specs.Format.{job_of}
 use Rattle.job.specs.Checks.{check_job}
 use Rattle.job.specs.declared.Check.TheVariants.{Accepted}
-use Rattle.table.specs.Layout.{used, answered}
+use Rattle.table.specs.Layout.{used}
 use Rattle.table.specs.Start.{start_words}
 use Rattle.turn.specs.Turn.{kind_number, turn, run_table, run_kinds}
 use Rattle.turn.specs.declared.Kind.{Kind}

@@ -8,12 +8,12 @@ pub loop-k-init : goal.loop-k-init
 loop-k-init c = going_start _ c.none_met-counts.ensures
 
 pub met_set-next-requires : goal.met_set-next-requires
-met_set-next-requires c =     let l = c.loop-k in
+met_set-next-requires c = let l = c.loop-k in
     let p = c.requires in
     (p.0, p.1, omega (arith, c.loop-k-test.true, c.set_count-all.ensures.value), l.invariant.trues_low, l.invariant.falses_low, l.invariant.undefineds_low)
 
 pub loop-k-preserved : goal.loop-k-preserved
-loop-k-preserved c =     let l = c.loop-k in
+loop-k-preserved c = let l = c.loop-k in
     subst⁻¹ (Going c.args.size _) c.met_set-next.ensures (going_more c.args.size l.k l.counts l.invariant (omega (arith, c.loop-k-test.true, c.set_count-all.ensures.value)))
 
 pub returns : goal.returns

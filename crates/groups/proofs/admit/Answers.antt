@@ -23,13 +23,13 @@ pub claim_count-requires : goal.claim_count-requires
 claim_count-requires c = header-room _ (good (goal.at.claim_count-requires c).In-Accepted)
 
 pub returns-then-groups-claim_count : goal.returns-then-groups-claim_count
-returns-then-groups-claim_count c =     let n = c.claim_count.ensures.value in record { value = admit-lists _ _ _ (accepted (goal.at.returns-then-groups-claim_count c).In-Accepted) refl (claims-wrong _ _ _ (λ e. c.if-groups-claim_count.true (e ∙ sym n))); admission = admission _ _ _ }
+returns-then-groups-claim_count c = let n = c.claim_count.ensures.value in record { value = admit-lists _ _ _ (accepted (goal.at.returns-then-groups-claim_count c).In-Accepted) refl (claims-wrong _ _ _ (λ e. c.if-groups-claim_count.true (e ∙ sym n))); admission = admission _ _ _ }
 
 pub worker_count-requires : goal.worker_count-requires
 worker_count-requires c = header-room _ (good (goal.at.worker_count-requires c).In-Accepted)
 
 pub returns-then-workers-worker_count : goal.returns-then-workers-worker_count
-returns-then-workers-worker_count c =     let n = c.worker_count.ensures.value in
+returns-then-workers-worker_count c = let n = c.worker_count.ensures.value in
     let a = c.claim_count.ensures.value in record { value = admit-lists _ _ _ (accepted (goal.at.returns-then-workers-worker_count c).In-Accepted) refl (workers-wrong _ _ _ (c.if-groups-claim_count.false ∙ a) (λ e. c.if-workers-worker_count.true (e ∙ sym n))); admission = admission _ _ _ }
 
 pub index_claims-index-requires : goal.index_claims-index-requires

@@ -1,5 +1,4 @@
-use Prim.Native.Nat.{◌+◌, ◌*◌, ◌-◌, ◌≤◌, ◌<◌}
-use mathlib.Core.Bool.{false}
+use Prim.Native.Nat.{◌+◌, ◌*◌, ◌≤◌, ◌<◌}
 use mathlib.Core.Path.{◌≡◌, refl, sym, ◌∙◌}
 use native.Mathlib.Omega.{arith}
 use borrow.Author.Count.{below_none, below_more}
@@ -53,7 +52,7 @@ pub slice_bounds-leads_abroad-end-in-loop-q : goal.slice_bounds-leads_abroad-end
 slice_bounds-leads_abroad-end-in-loop-q c = sym c.loop-q.invariant.2
 
 pub leads_abroad-requires : goal.leads_abroad-requires
-leads_abroad-requires c =     let p = c.requires in
+leads_abroad-requires c = let p = c.requires in
     let x = c.loop-q.invariant in record { well_formed = (p.well_formed.0, p.well_formed.1, p.groups_len.0); claim_bound = (omega (arith, (asked (goal.at.leads_abroad-requires c).After-question_at-question).claim_is, p.well_formed.0.asked c.loop-q.q (some (goal.at.leads_abroad-requires c).In-loop-q)), c.byte-group.ensures.small, x.1, x.2); known = x.3 }
 
 -- where the question stands in the file
@@ -86,7 +85,7 @@ bad c = asked-bad _ _ c.args.workers.now _ _ _ _ (asked (goal.at.After-leads_abr
 
 pub returns-then-leads_abroad : goal.returns-then-leads_abroad
 unfolding check_partners
-returns-then-leads_abroad c =     let l = c.loop-q in
+returns-then-leads_abroad c = let l = c.loop-q in
     placed refl (omega (arith, c.rule_count-rules.ensures.value, c.literal_count-literals.ensures.value))
     ∙ scan_at _ _ l.q _ _ (some (goal.at.returns-then-leads_abroad c).In-loop-q) l.invariant.4 (sym (bad (goal.at.returns-then-leads_abroad c).After-leads_abroad) ∙ c.if-leads_abroad.true)
 
@@ -97,7 +96,7 @@ pub loop-q-smaller : goal.loop-q-smaller
 loop-q-smaller c = omega (arith, some (goal.at.loop-q-smaller c).In-loop-q)
 
 pub loop-q-preserved : goal.loop-q-preserved
-loop-q-preserved c =     let l = c.loop-q in
+loop-q-preserved c = let l = c.loop-q in
     let x = c.leads_abroad in (
       omega (arith, some (goal.at.loop-q-preserved c).In-loop-q),
       x.auto.scopes ∙ l.invariant.1,

@@ -10,7 +10,7 @@ use Rattle.groups.specs.Scopes.{Known}
 use Rattle.groups.proofs.check_partners.Given as goal
 
 abbrev pub invariant-loop-q : goal.invariant-loop-q
-invariant-loop-q l =     (l.q ≤ questions_of l.job)
+invariant-loop-q l = (l.q ≤ questions_of l.job)
     × (length l.scopes ≡ most_claims)
     × (length l.queue ≡ most_claims)
     × Known (job_of l.job) l.groups l.scopes

@@ -19,10 +19,10 @@ pub choice_length-n-requires : goal.choice_length-n-requires
 choice_length-n-requires c = (c.requires.0, c.choice_of.ensures.small)
 
 pub overflow_add-n : goal.overflow_add-n
-overflow_add-n c =     let l = c.loop-c in omega (arith, l.invariant.low, l.invariant.within, c.requires.0, c.choice_length-n.ensures.small)
+overflow_add-n c = let l = c.loop-c in omega (arith, l.invariant.low, l.invariant.within, c.requires.0, c.choice_length-n.ensures.small)
 
 pub loop-c-preserved : goal.loop-c-preserved
-loop-c-preserved c =     let l = c.loop-c in
+loop-c-preserved c = let l = c.loop-c in
     let h : l.c < c.args.size = omega arith in
     let x = choice_in c.args.size c.args.k l.c in
     counting_more _ _ _ l.invariant h
@@ -31,5 +31,5 @@ loop-c-preserved c =     let l = c.loop-c in
     (omega (arith, chosen_count l.c x, chosen_most c.args.size x (choice-in c.args.size c.args.k c.requires.1 l.c h), c.requires.0))
 
 pub returns : goal.returns
-returns c =     let l = c.loop-c in
+returns c = let l = c.loop-c in
     record { value = counting_done _ _ _ l.invariant (omega arith) ∙ sym (bodies-before c.args.size c.args.k c.requires.1); small = omega (arith, l.invariant.low, l.invariant.within, c.requires.0) }

@@ -16,11 +16,11 @@ pub choice_of-requires : goal.choice_of-requires
 choice_of-requires c = let p = c.requires in (p.0, omega (arith, c.loop-c-test.true), p.1)
 
 pub put_choice-to-requires : goal.put_choice-to-requires
-put_choice-to-requires c =     let l = c.loop-c in
+put_choice-to-requires c = let l = c.loop-c in
     (c.requires.0, c.choice_of.ensures.small, all_room _ _ l.invariant c.loop-c-test.true (ap (λ (y : Choice). flat_map literal_half (chosen_literals y)) (choice-named c.args.size c.args.k l.c c.requires.1 c.loop-c-test.true c.choice_of.ensures.value)))
 
 pub loop-c-preserved : goal.loop-c-preserved
-loop-c-preserved c =     let l = c.loop-c in
+loop-c-preserved c = let l = c.loop-c in
     all_more _ _ l.invariant c.loop-c-test.true (ap (λ (y : Choice). flat_map literal_half (chosen_literals y)) (choice-named c.args.size c.args.k l.c c.requires.1 c.loop-c-test.true c.choice_of.ensures.value)) c.put_choice-to.ensures
 
 pub shape_of-out : goal.shape_of-out

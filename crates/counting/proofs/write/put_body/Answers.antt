@@ -16,7 +16,7 @@ pub sign_of-requires : goal.sign_of-requires
 sign_of-requires c = let p = c.requires in (p.0, omega (arith, c.loop-c-test.true), p.1)
 
 pub put_literal-to-requires : goal.put_literal-to-requires
-put_literal-to-requires c =     let l = c.loop-c in
+put_literal-to-requires c = let l = c.loop-c in
     let x = sign_at c.args.size c.args.x l.c in (
       c.sign_of.ensures.small,
       omega (arith, c.loop-c-test.true, c.requires.0),
@@ -24,7 +24,7 @@ put_literal-to-requires c =     let l = c.loop-c in
     )
 
 pub loop-c-preserved : goal.loop-c-preserved
-loop-c-preserved c =     let l = c.loop-c in
+loop-c-preserved c = let l = c.loop-c in
     let x = sign_at c.args.size c.args.x l.c in
     all_more _ _ l.invariant c.loop-c-test.true (ap (λ (y : Sign). flat_map literal_half (signed l.c y)) (sign-named x c.sign_of.ensures.value)) c.put_literal-to.ensures
 

@@ -13,7 +13,7 @@ unfolding flat_map
 returns-then-v-eq0 c = put_as (put_none _ _) (sym (ap (flat_map literal_half) (chosen_none c.args.size _ c.if-v-eq0.true)))
 
 pub put_body-requires : goal.put_body-requires
-put_body-requires c =     (c.requires.0, omega (arith, c.requires.1, c.if-v-eq0.false), omega (arith, c.requires.2, ap (λ (x : List Literal). length (flat_map literal_half x)) (chosen-some c.args.size c.args.v c.if-v-eq0.false c.requires.1)))
+put_body-requires c = (c.requires.0, omega (arith, c.requires.1, c.if-v-eq0.false), omega (arith, c.requires.2, ap (λ (x : List Literal). length (flat_map literal_half x)) (chosen-some c.args.size c.args.v c.if-v-eq0.false c.requires.1)))
 
 pub returns : goal.returns
-returns c =     put_as c.put_body.ensures (sym (ap (flat_map literal_half) (chosen-some c.args.size c.args.v c.if-v-eq0.false c.requires.1)))
+returns c = put_as c.put_body.ensures (sym (ap (flat_map literal_half) (chosen-some c.args.size c.args.v c.if-v-eq0.false c.requires.1)))

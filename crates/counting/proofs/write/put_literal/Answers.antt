@@ -9,7 +9,7 @@ pub returns-then-p-eq0 : goal.returns-then-p-eq0
 returns-then-p-eq0 c = put_as (put_none _ _) (sym (literal_none _ _ c.if-p-eq0.true))
 
 pub put_half-requires : goal.put_half-requires
-put_half-requires c =     omega (arith, c.requires.2, ap length (literal-some c.args.c c.args.p c.if-p-eq0.false c.requires.0))
+put_half-requires c = omega (arith, c.requires.2, ap length (literal-some c.args.c c.args.p c.if-p-eq0.false c.requires.0))
 
 pub returns : goal.returns
-returns c =     put_as c.put_half.ensures (sym (literal-some c.args.c c.args.p c.if-p-eq0.false c.requires.0))
+returns c = put_as c.put_half.ensures (sym (literal-some c.args.c c.args.p c.if-p-eq0.false c.requires.0))

@@ -14,12 +14,12 @@ pub put_half-a-requires : goal.put_half-a-requires
 put_half-a-requires c = let l = c.loop-c in omega (arith, all_room _ _ l.invariant c.loop-c-test.true (refl {a = ask_bytes l.c}))
 
 pub put_half-to-requires : goal.put_half-to-requires
-put_half-to-requires c =     let l = c.loop-c in
+put_half-to-requires c = let l = c.loop-c in
     let r = all_room _ _ l.invariant c.loop-c-test.true (refl {a = ask_bytes l.c}) in
     omega (arith, r, c.put_half-a.ensures.next, put_size _ _ (half_bytes 0) _ _ (omega (arith, r)) c.put_half-a.ensures)
 
 pub loop-c-preserved : goal.loop-c-preserved
-loop-c-preserved c =     let l = c.loop-c in
+loop-c-preserved c = let l = c.loop-c in
     let r = all_room _ _ l.invariant c.loop-c-test.true (refl {a = ask_bytes l.c}) in
     all_more _ _ l.invariant c.loop-c-test.true (refl {a = ask_bytes l.c}) (put_put _ _ (half_bytes 0) _ _ (omega (arith, r)) c.put_half-a.ensures (half_bytes l.c) _ _ c.put_half-to.ensures)
 

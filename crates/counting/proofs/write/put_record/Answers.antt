@@ -15,13 +15,13 @@ pub put_half-a-requires : goal.put_half-a-requires
 put_half-a-requires c = omega (arith, c.requires.2, ap length (record-some c.args.size c.args.v c.if-v-eq0.false c.requires.1 c.args.c))
 
 pub body_length-requires : goal.body_length-requires
-body_length-requires c =     let p = c.requires in (p.0, omega (arith, p.1, c.if-v-eq0.false))
+body_length-requires c = let p = c.requires in (p.0, omega (arith, p.1, c.if-v-eq0.false))
 
 pub put_half-requires : goal.put_half-requires
-put_half-requires c =     let r : _ = ap length (record-some c.args.size c.args.v c.if-v-eq0.false c.requires.1 c.args.c) in
+put_half-requires c = let r : _ = ap length (record-some c.args.size c.args.v c.if-v-eq0.false c.requires.1 c.args.c) in
     omega (arith, c.requires.2, r, c.put_half-a.ensures.next, put_size _ _ (half_bytes c.args.c) _ _ (omega (arith, c.requires.2, r)) c.put_half-a.ensures)
 
 pub returns : goal.returns
-returns c =     let e = record-some c.args.size c.args.v c.if-v-eq0.false c.requires.1 c.args.c in
+returns c = let e = record-some c.args.size c.args.v c.if-v-eq0.false c.requires.1 c.args.c in
     put_as (put_put _ _ (half_bytes c.args.c) _ _ (omega (arith, c.requires.2, ap length e)) c.put_half-a.ensures (half_bytes c.body_length.result) _ _ c.put_half.ensures)
     (ap (λ (x : ℕ). half_bytes c.args.c ++ half_bytes x) c.body_length.ensures.value ∙ sym e)

@@ -1,4 +1,4 @@
-use Prim.Native.Nat.{◌+◌, ◌-◌, ◌<◌, ◌≤◌}
+use Prim.Native.Nat.{◌+◌, ◌<◌, ◌≤◌}
 use mathlib.Core.Path.{◌≡◌, refl, sym, ◌∙◌, ap}
 use native.Mathlib.Omega.{arith}
 use borrow.Author.Tests.{leb-false, leb-true}
@@ -27,11 +27,11 @@ pub loop-cursor-init : goal.loop-cursor-init
 loop-cursor-init c = (refl, omega arith, c.requires.well_formed.2, expanded-start _ _ _ _ _ c.requires.fits)
 
 pub current-requires : goal.current-requires
-current-requires c =     let p = c.requires.well_formed in
+current-requires c = let p = c.requires.well_formed in
     omega (arith, left (goal.at.current-requires c).In-loop-cursor, c.loop-cursor.invariant.0, p.1, p.3, p.0.sized.size)
 
 pub meet-top-requires : goal.meet-top-requires
-meet-top-requires c =     (omega (arith, meets (goal.at.meet-top-requires c).After-claim_of-claim, low (goal.at.meet-top-requires c).In-loop-cursor), c.requires.well_formed.4, c.loop-cursor.invariant.3.fits)
+meet-top-requires c = (omega (arith, meets (goal.at.meet-top-requires c).After-claim_of-claim, low (goal.at.meet-top-requires c).In-loop-cursor), c.requires.well_formed.4, c.loop-cursor.invariant.3.fits)
 
 pub advanced-cursor-requires : goal.advanced-cursor-requires
 advanced-cursor-requires c = left (goal.at.advanced-cursor-requires c).In-loop-cursor
@@ -43,7 +43,7 @@ pub loop-cursor-smaller : goal.loop-cursor-smaller
 loop-cursor-smaller c = omega (arith, left (goal.at.loop-cursor-smaller c).In-loop-cursor, moves (goal.at.loop-cursor-smaller c).After-advanced-cursor)
 
 pub loop-cursor-preserved : goal.loop-cursor-preserved
-loop-cursor-preserved c =     let l = c.loop-cursor in
+loop-cursor-preserved c = let l = c.loop-cursor in
     let m = moves (goal.at.loop-cursor-preserved c).After-advanced-cursor in (
       m.1 ∙ l.invariant.0,
       omega (arith, l.invariant.1, m),
@@ -58,6 +58,6 @@ pub shape_of-queue : goal.shape_of-queue
 shape_of-queue c = omega (arith, c.loop-cursor.invariant.3.fits.queue_long, c.requires.fits.queue_long)
 
 pub returns : goal.returns
-returns c =     let l = c.loop-cursor in
+returns c = let l = c.loop-cursor in
     let e : l.cursor.end ≤ l.cursor.at = leb-true _ _ (sym c.at_end.ensures ∙ c.loop-cursor-test.false) in
     expanded-to _ _ _ _ _ _ _ _ l.invariant.3 (omega (arith, e, l.invariant.0, l.invariant.2))

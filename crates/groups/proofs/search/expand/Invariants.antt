@@ -7,7 +7,7 @@ use Rattle.groups.specs.Scopes.{Expanded}
 use Rattle.groups.proofs.search.expand.Given as goal
 
 abbrev pub invariant-loop-cursor : goal.invariant-loop-cursor
-invariant-loop-cursor l =     (l.cursor.end ≡ l.initial.cursor.end)
+invariant-loop-cursor l = (l.cursor.end ≡ l.initial.cursor.end)
     × (l.initial.cursor.at ≤ l.cursor.at)
     × (l.cursor.at ≤ l.cursor.end)
     × Expanded (job_of l.job) l.group (λ y. claim_of (literal_at l.job (rules_of l.job) y)) l.initial.cursor.at l.cursor.at

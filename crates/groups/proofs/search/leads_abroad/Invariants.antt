@@ -5,7 +5,7 @@ use Rattle.groups.proofs.Seeking.{Seeking}
 use Rattle.groups.proofs.search.leads_abroad.Given as goal
 
 abbrev pub invariant-loop-i : goal.invariant-loop-i
-invariant-loop-i l =     Seeking l.job l.groups l.group l.claim l.i (record { scopes = l.scopes; queue = l.queue; top = l.top })
+invariant-loop-i l = Seeking l.job l.groups l.group l.claim l.i (record { scopes = l.scopes; queue = l.queue; top = l.top })
 
 abbrev pub decreases-loop-i : goal.decreases-loop-i
 decreases-loop-i l = most_claims - l.i

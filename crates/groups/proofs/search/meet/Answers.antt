@@ -1,7 +1,6 @@
 use Prim.Native.Nat.{◌<◌}
 use native.Mathlib.Omega.{arith}
 use Rattle.job.specs.Job.{most_claims}
-use Rattle.groups.specs.Scopes.{settled}
 use Rattle.groups.proofs.Scopes.{narrow-small, push-room, met-settled, met_out, met-pushed}
 use Rattle.groups.proofs.search.meet.Goals as goal
 use Rattle.groups.proofs.search.meet.Goals.{After-narrow}

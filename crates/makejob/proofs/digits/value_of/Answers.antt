@@ -1,5 +1,5 @@
 use mathlib.Core.Path.{◌≡◌, refl, ◌∙◌, ap}
-use Prim.Native.Nat.{ℕ, ◌+◌, ◌≤◌, ◌-◌}
+use Prim.Native.Nat.{ℕ, ◌+◌, ◌≤◌}
 use native.Mathlib.Omega.{arith}
 use lib.ListN.{drop}
 use Rattle.lines.specs.Numbering.{cap, digit_by}
@@ -15,9 +15,9 @@ pub loop-i-init : goal.loop-i-init
 loop-i-init c = (refl, omega arith, omega arith, refl)
 
 pub loop-i-preserved : goal.loop-i-preserved
-loop-i-preserved c =     let l = c.loop-i in
+loop-i-preserved c = let l = c.loop-i in
     let s = c.args.bytes.now in
     (omega arith, omega arith, kept _ _ _ c.with_digit-value.ensures, ap (λ (n : ℕ). value_from n (drop (l.i + 1) s)) c.with_digit-value.ensures ∙ value_more s l.i l.value (omega arith) ∙ l.invariant.3)
 
 pub returns : goal.returns
-returns c =     let l = c.loop-i in record { value = value_end c.args.bytes.now l.i l.value (omega arith) ∙ l.invariant.3; upper_bound = omega arith }
+returns c = let l = c.loop-i in record { value = value_end c.args.bytes.now l.i l.value (omega arith) ∙ l.invariant.3; upper_bound = omega arith }

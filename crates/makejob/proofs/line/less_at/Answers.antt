@@ -12,7 +12,7 @@ returns-then-b-ne10 c = sym (pick-false _ _ _ (ne_eqb _ _ c.if-b-ne10.true))
 
 pub returns-then-left-eq0 : goal.returns-then-left-eq0
 unfolding less_at is_feed
-returns-then-left-eq0 c =     let n = c.args.left in
+returns-then-left-eq0 c = let n = c.args.left in
     omega (arith, pick_true (is_feed c.args.b) (n - 1) n (eq-eqb _ _ c.if-b-ne10.false))
 
 pub returns : goal.returns

@@ -1,4 +1,3 @@
-use Prim.Native.Nat.{◌-◌}
 use mathlib.Core.Path.{refl, ◌∙◌}
 use native.Mathlib.Omega.{arith}
 use borrow.Author.Tests.{eq-eqb, ne_eqb}
@@ -11,14 +10,14 @@ loop-end-init c = (omega arith, omega arith, refl)
 
 pub returns-then-text-end-eq10 : goal.returns-then-text-end-eq10
 unfolding is_feed
-returns-then-text-end-eq10 c =     let l = c.loop-end in
+returns-then-text-end-eq10 c = let l = c.loop-end in
     (first-stop is_feed c.args.text.now l.end (omega arith) (eq-eqb _ _ c.if-text-end-eq10.true) ∙ l.invariant.2, omega arith, omega arith)
 
 pub loop-end-preserved : goal.loop-end-preserved
 unfolding is_feed
-loop-end-preserved c =     let l = c.loop-end in
+loop-end-preserved c = let l = c.loop-end in
     (omega arith, omega arith, first_more is_feed c.args.text.now l.end (omega arith) (ne_eqb _ _ c.if-text-end-eq10.false) ∙ l.invariant.2)
 
 pub returns : goal.returns
-returns c =     let l = c.loop-end in
+returns c = let l = c.loop-end in
     (first_end is_feed c.args.text.now l.end (omega arith) ∙ l.invariant.2, omega arith, omega arith)

@@ -14,9 +14,9 @@ unfolding is_late
 returns-then-line-lt2 c = sym (pick_true _ _ _ (under-yes _ _ (omega arith)))
 
 pub returns-then-first_byte-ne97 : goal.returns-then-first_byte-ne97
-returns-then-first_byte-ne97 c =     late-no _ _ (omega arith) (c.first_byte.ensures ∙ ap (λ (x : List ℕ). get_or x 0 0) c.line_of-before.ensures) c.if-first_byte-ne97.true
+returns-then-first_byte-ne97 c = late-no _ _ (omega arith) (c.first_byte.ensures ∙ ap (λ (x : List ℕ). get_or x 0 0) c.line_of-before.ensures) c.if-first_byte-ne97.true
 
 pub returns : goal.returns
-returns c =     late_by _ _ (omega arith) (c.first_byte.ensures ∙ ap (λ (x : List ℕ). get_or x 0 0) c.line_of-before.ensures) c.if-first_byte-ne97.false
+returns c = late_by _ _ (omega arith) (c.first_byte.ensures ∙ ap (λ (x : List ℕ). get_or x 0 0) c.line_of-before.ensures) c.if-first_byte-ne97.false
     (c.first_byte-2.ensures ∙ ap (λ (x : List ℕ). get_or x 0 0) c.line_of-typed.ensures)
     c.is_digit.ensures
