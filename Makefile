@@ -7,15 +7,15 @@ SHELL = /bin/bash
 .PHONY: run programs c library test bench clean
 compile = cc -std=c11 -Wall -Wextra -O2 -Iinclude
 
-# shown: a line for each crate that is proved
+# shown: a line for each crate that is proved, and what rt says
 programs:
-	rt check makejob verdicts canonjob replayjob census | grep '^rt:'
+	tests/built makejob verdicts canonjob replayjob census | grep -E '^(rt:|crate|error)'
 
 run: programs
 	target/bin/makejob < examples/fields/first.rules | target/bin/verdicts
 
 library:
-	rt staticlib zestchintz
+	tests/built zestchintz
 
 c: library programs
 	mkdir -p target/examples
@@ -28,8 +28,8 @@ test:
 	.ci/run
 
 bench: library
-	rt staticlib table_calls
+	tests/built table_calls
 	bench/run
 
 clean:
-	rm -rf target
+	rm -rf target crates/*/out
