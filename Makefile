@@ -1,6 +1,6 @@
 # make run      builds the programs makejob, verdicts, canonjob, replayjob and census, and lists a first example
 # make c        builds the library, and runs the examples in C
-# make test     the proofs from nothing, then all tests: what the gate does
+# make test     all proofs, then all tests: what the gate does
 # make bench    plain evaluation and runs beside other evaluators, as ratios
 SHELL = /bin/bash
 .SHELLFLAGS = -o pipefail -c

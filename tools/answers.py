@@ -3,7 +3,7 @@
 
 usage: python3 tools/answers.py CRATE NAMES [ROOT] [FUNCTION..]    NAMES: the names.json of `rt check --generated DIR --old-names` in the crate
 
-Answers that the check is likely to find alone are left out; ROOT/crates/CRATE/../../dropped-CRATE.json keeps them, and
+Answers that the check is likely to find alone are left out; ROOT/target/dropped-CRATE.json keeps them, and
 `python3 tools/answers.py --put CRATE LOG [ROOT]` puts those back that the check's LOG names. What can't be turned is marked TODO.
 """
 
@@ -525,7 +525,7 @@ def convert(crate, folder, x, fnname, labels, dropped, said):
 
 def put(crate, log, root):
     """Puts dropped answers back that the check's log names as open."""
-    file = os.path.join("/tmp", f"dropped-{crate}.json")
+    file = os.path.join(root, "target", f"dropped-{crate}.json")
     dropped = json.load(open(file))
     n = 0
     for line in open(log, encoding="utf-8"):
@@ -562,7 +562,7 @@ def main():
     only = set(sys.argv[4:])
     labels = labels_of(root)
     dropped, said = {}, []
-    file = os.path.join("/tmp", f"dropped-{crate}.json")
+    file = os.path.join(root, "target", f"dropped-{crate}.json")
     if os.path.exists(file) and only:
         dropped = json.load(open(file))
     base = os.path.join(root, "crates", crate, "proofs")
@@ -580,6 +580,7 @@ def main():
             convert(crate, folder, names[key], fnname, labels, dropped, said)
         except Exception as e:
             said.append((fnname, f"failed: {e!r}"))
+    os.makedirs(os.path.dirname(file), exist_ok=True)
     json.dump(dropped, open(file, "w"))
     for s in said:
         print(*s)

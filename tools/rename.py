@@ -104,9 +104,6 @@ def main():
             with open(f, "w", encoding="utf-8") as o:
                 o.write(new)
     print(len(change), "names respelled")
-    with open("/tmp/renamed.txt", "w") as o:
-        for n in sorted(change):
-            o.write(f"{n} {change[n]}\n")
 
 
 if __name__ == "__main__":

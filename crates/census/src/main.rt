@@ -5,13 +5,13 @@
 
 mod lines;
 
-// What standard error doesn't take is let go: there is nowhere else to say it.
 fn main(rt: HostRuntime) {
     let mut text = [0u8; lines::MOST_TEXT];
     let n = lines::put_table(&mut text);
     if rt.stdout().write_all(&text[..n]).is_ok() {
         return;
     }
+    // What standard error doesn't take is let go: there is nowhere else to say it.
     let _ = rt.stderr().write_all(
         b"census: the table can't be written to standard output; is the disk full?\n",
     );
