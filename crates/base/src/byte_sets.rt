@@ -13,9 +13,5 @@ pub fn member(w: &[u8], c: usize) -> bool
 pub fn clear(w: &mut [u8])
     ensures { (c : ℕ) → get_or w.new c 0 ≡ 0 }
 {
-    let mut i = 0;
-    while i < w.len() {
-        w[i] = 0;
-        i += 1;
-    }
+    w.fill(0);
 }

@@ -1,5 +1,4 @@
-// What several crates share: bytes as sets of claims, and numbers made wider; definitions and laws, each once (specs/ and proofs/).
+// What several crates share: bytes as sets of claims; definitions and laws, each once (specs/ and proofs/).
 #![tactic(auto)]
 
 pub mod byte_sets;
-pub mod wide;

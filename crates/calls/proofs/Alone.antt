@@ -13,8 +13,8 @@ use Rattle.job.specs.Job.{Job}
 use Rattle.job.specs.Format.{job_of}
 use Rattle.job.specs.Encoding.{encode, ◌∈◌, Valid}
 use Rattle.job.specs.Checks.{check_job}
-use Rattle.job.specs.declared.Check.{Check}
-use Rattle.job.specs.declared.Check.TheVariants.{Accepted}
+use Rattle.job.specs.Check.{Check}
+use Rattle.job.specs.Check.{Accepted}
 use Rattle.job.specs.declared.Question.{Question}
 use Rattle.job.proofs.Rows.{join, pass}
 use Rattle.job.proofs.Accepted.{accepted}

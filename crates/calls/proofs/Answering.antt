@@ -1,60 +1,73 @@
--- What a call gives by its checks: F of the whole check, once its first part has answered. Assumes nothing.
+-- What a call gives by its checks, and what its answer says of them. Assumes nothing.
+--   goes_on, stops_at           F of the whole check, once its first part has answered
+--   answered_on, answered_at    the same of an answer
+--   answered-ok, answered-err   the check of an answer
+--   ran-stop, -stop_then, _then, -made   a run
+--   start-good, schedule-low    what accepted rows say
 use Prim.Native.Nat.{ℕ, ◌≤◌}
-use mathlib.Core.Path.{◌≡◌, sym, ◌∙◌, ap, ap₂}
+use mathlib.Core.Path.{◌≡◌, refl, sym, ◌∙◌, ap}
+use native.Mathlib.Omega.{arith}
 use mathlib.Core.List.{List}
-use lib.ListN.{length, get_or, replicate}
+use lib.ListN.{length, get_or}
 use Rattle.base.proofs.Compare.{not_below_lt}
 use Rattle.job.specs.Accepted.{WellFormed}
-use Rattle.job.proofs.Rows.{both, scan_all}
+use Rattle.job.proofs.Rows.{onward, returned, both, scan_all}
 use Rattle.job.proofs.Accepted.{well_formed}
 use Rattle.job.specs.Format.{workers, job_of}
 use Rattle.table.specs.Layout.{used}
 use Rattle.table.proofs.Ranges.{enough-room}
 use Rattle.turn.specs.Turn.{run_table, run_kinds}
-use Rattle.calls.specs.Calls.{Named, start_check, check_schedule, run_check, tally, run_tally, run_left, Ran, run_answer}
-use Rattle.calls.specs.declared.RunAnswer.{RunAnswer}
+use Rattle.calls.specs.Calls.{Named, answered, start_check, check_schedule, tally, run_left, Ran}
 use Rattle.job.specs.Rows.{◌⨾◌}
-use Rattle.job.specs.declared.Check.{Check}
-use Rattle.job.specs.declared.Check.TheVariants.{Accepted, Refused}
+use Rattle.job.specs.Check.{Check, Accepted}
+use Rattle.job.specs.declared.Refusal.{Refusal}
+use Rattle.std.specs.Prelude.{Result, Ok, Err, IsErrAnd}
 
-on : (x y : Check) {a : Check} → a ≡ Accepted → a ≡ x → y ≡ x ⨾ y
-unfolding ◌⨾◌
-on x y e q = rw (sym q ∙ e)
+module _ {X : Type 0} (F : Check → X) (x y : Check) where
+  pub goes_on : Accepted ≡ x → {r : X} → r ≡ F y → r ≡ F (x ⨾ y)
+  goes_on q h = h ∙ ap F (onward x y q refl)
 
-off : (x y : Check) {a : Check} {n p : ℕ} → a ≡ Refused n p → a ≡ x → Refused n p ≡ x ⨾ y
-unfolding ◌⨾◌
-off x y e q = rw (sym q ∙ e)
+  pub stops_at : {e : Refusal} → Err e ≡ x → {r : X} → r ≡ F (Err e) → r ≡ F (x ⨾ y)
+  unfolding ◌⨾◌
+  stops_at q h = h ∙ ap F (rw (← q) refl)
 
-module _ {X : Type 0} (F : Check → X) (x y : Check) {a : Check} where
-  pub goes_on : a ≡ Accepted → a ≡ x → {r : X} → r ≡ F y → r ≡ F (x ⨾ y)
-  goes_on e q h = h ∙ ap F (on x y e q)
+-- an answer, past the check's first part and refused by it
+module _ {A : Type 0} (v : A) (x y : Check) where
+  pub answered_on : Accepted ≡ x → {r : Result A Refusal} → r ≡ answered y v → r ≡ answered (x ⨾ y) v
+  answered_on = goes_on (λ (k : Check). answered k v) x y
 
-  pub stops_at : {n p : ℕ} → a ≡ Refused n p → a ≡ x → {r : X} → r ≡ F (Refused n p) → r ≡ F (x ⨾ y)
-  stops_at e q h = h ∙ ap F (off x y e q)
+  pub answered_at : {e : Refusal} → Err e ≡ x → {r : Result A Refusal} → IsErrAnd r (λ z. z ≡ e) → r ≡ answered (x ⨾ y) v
+  unfolding answered
+  answered_at q {r} h = stops_at (λ (k : Check). answered k v) x y q (returned r h)
+
+-- what an answer says of its check
+pub answered-ok : {A : Type 0} (v : A) (x : Check) {r : Result A Refusal} {w : A} → r ≡ answered x v → r ≡ Ok w → (Accepted ≡ x) × (w ≡ v)
+unfolding answered
+answered-ok v Accepted {r} {w} a b = let e : Ok w ≡ Ok v = sym b ∙ a in (refl, cc)
+answered-ok v (Err refusal) {r} {w} a b = let z : ◌≡◌ {A = ℕ} 0 1 = cc in absurd (omega arith)
+
+pub answered-err : {A : Type 0} (v : A) (x : Check) {r : Result A Refusal} {e : Refusal} → r ≡ answered x v → r ≡ Err e → Err e ≡ x
+unfolding answered
+answered-err v Accepted a b = let z : ◌≡◌ {A = ℕ} 0 1 = cc in absurd (omega arith)
+answered-err v (Err refusal) {r} {e} a b = let q : refusal ≡ e = cc in ap Err (sym q)
 
 -- a run, by its checks
 module _ (s t ws : List ℕ) where
-  pub ran-stop : (x : Check) {a : Check} {n p : ℕ} → a ≡ Refused n p → a ≡ x → {counts : List ℕ} → counts ≡ replicate 8 0 → Ran x s t ws (record { check = a; tally = counts }) t
-  unfolding run_tally run_left
-  ran-stop x e q h =
-      let f = sym q ∙ e in
-      record { check_is = q; tally_is = h ∙ ap (λ (y : Check). run_tally y s t ws) (sym f); table_is = ap (λ (y : Check). run_left y s t ws) (sym f) }
+  pub ran-stop : (x : Check) {e : Refusal} → Err e ≡ x → {r : Result (List ℕ) Refusal} → IsErrAnd r (λ z. z ≡ e) → Ran x s t ws r t
+  unfolding answered run_left
+  ran-stop x q {r} h = rw (← q) (record { answer_is = returned r h; table_is = refl })
 
-  pub ran-stop_then : (x y : Check) {a : Check} {n p : ℕ} → a ≡ Refused n p → a ≡ x → {counts : List ℕ} → counts ≡ replicate 8 0 → Ran (x ⨾ y) s t ws (record { check = a; tally = counts }) t
-  ran-stop_then x y e q h = ran-stop (x ⨾ y) e (e ∙ off x y e q) h
+  pub ran-stop_then : (x y : Check) {e : Refusal} → Err e ≡ x → {r : Result (List ℕ) Refusal} → IsErrAnd r (λ z. z ≡ e) → Ran (x ⨾ y) s t ws r t
+  unfolding ◌⨾◌
+  ran-stop_then x y q h = ran-stop (x ⨾ y) (rw (← q) refl) h
 
-  pub ran_then : (x y : Check) {a : Check} → a ≡ Accepted → a ≡ x → {r : RunAnswer} {u : List ℕ} → Ran y s t ws r u → Ran (x ⨾ y) s t ws r u
-  ran_then x y e q r =
-      let f = on x y e q in
-      record { check_is = r.check_is ∙ f; tally_is = r.tally_is ∙ ap (λ (z : Check). run_tally z s t ws) f; table_is = r.table_is ∙ ap (λ (z : Check). run_left z s t ws) f }
+  pub ran_then : (x y : Check) → Accepted ≡ x → {r : Result (List ℕ) Refusal} {u : List ℕ} → Ran y s t ws r u → Ran (x ⨾ y) s t ws r u
+  unfolding ◌⨾◌
+  ran_then x y q m = rw (← q) m
 
-  pub ran-made : (x : Check) → Accepted ≡ x → {counts u : List ℕ} → counts ≡ tally (run_kinds (job_of s) t ws) → u ≡ run_table (job_of s) t ws → Ran x s t ws (record { check = Accepted; tally = counts }) u
-  unfolding run_tally run_left
-  ran-made x e h g = record { check_is = e; tally_is = h ∙ ap (λ (y : Check). run_tally y s t ws) e; table_is = g ∙ ap (λ (y : Check). run_left y s t ws) e }
-
-  pub ran-answer : {r : RunAnswer} {u : List ℕ} → Ran (run_check s t ws) s t ws r u → (r ≡ run_answer s t ws) × (u ≡ run_left (run_check s t ws) s t ws)
-  unfolding run_answer
-  ran-answer {r} m = (ap₂ (λ (x : Check) (y : List ℕ). record { check = x; tally = y }) m.check_is m.tally_is, m.table_is)
+  pub ran-made : (x : Check) → Accepted ≡ x → {counts u : List ℕ} → counts ≡ tally (run_kinds (job_of s) t ws) → u ≡ run_table (job_of s) t ws → Ran x s t ws (Ok counts) u
+  unfolding answered run_left
+  ran-made x q h g = rw (← q) (record { answer_is = ap Ok h; table_is = g })
 
 -- what accepted rows 1 to 9 say
 pub start-good : (s t : List ℕ) → Accepted ≡ start_check s t → WellFormed s × (used (job_of s) ≤ length t)

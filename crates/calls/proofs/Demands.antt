@@ -12,7 +12,7 @@ use Rattle.base.proofs.Span.{length-span}
 use Rattle.job.specs.Job.{Job}
 use Rattle.job.specs.Format.{job_of}
 use Rattle.job.specs.Checks.{check_job}
-use Rattle.job.specs.declared.Check.TheVariants.{Accepted}
+use Rattle.job.specs.Check.{Accepted}
 use Rattle.job.proofs.Accepted.{well_formed}
 use Rattle.semantics.specs.Model.{known_of}
 use Rattle.semantics.specs.Missing.{Extension}

@@ -14,8 +14,9 @@ use lib.ListN.{length, get_or}
 use Rattle.base.proofs.Compare.{not_below_lt}
 use Rattle.job.specs.Job.{Job}
 use Rattle.job.specs.Format.{job_of}
-use Rattle.job.specs.declared.Check.{Check}
-use Rattle.job.specs.declared.Check.TheVariants.{Accepted, Refused}
+use Rattle.job.specs.Check.{Check}
+use Rattle.job.specs.Check.{Accepted}
+use Rattle.std.specs.Prelude.{Err}
 use Rattle.job.proofs.Rows.{both, row-no, scan_all}
 use Rattle.turn.specs.Turn.{turn, run_table, run_kinds}
 use Rattle.turn.specs.declared.Kind.{Kind}
@@ -59,7 +60,7 @@ module _ (j : Job) where
   unless-low : (k : Check) (ws : List ℕ) → (Accepted ≡ k → Low j ws) → Low j (unless k ws)
   unfolding unless
   unless-low Accepted ws f = f refl
-  unless-low (Refused n p) ws f = low_none
+  unless-low (Err refusal) ws f = low_none
 
 module _ (s : List ℕ) where
   -- what an accepted call says of its workers
@@ -75,12 +76,12 @@ module _ (s : List ℕ) where
   turn_left : (k : Check) (t : List ℕ) (w : ℕ) → turn_table k s t w ≡ run_table (job_of s) t (unless k (w ∷ []))
   unfolding turn_table run_table unless
   turn_left Accepted t w = refl
-  turn_left (Refused n p) t w = refl
+  turn_left (Err refusal) t w = refl
 
   run-left : (k : Check) (t ws : List ℕ) → run_left k s t ws ≡ run_table (job_of s) t (unless k ws)
   unfolding run_left run_table unless
   run-left Accepted t ws = refl
-  run-left (Refused n p) t ws = refl
+  run-left (Err refusal) t ws = refl
 
   pub left-made : (t : List ℕ) (x : Call) → left s t x ≡ run_table (job_of s) t (made s t x)
   unfolding left made run_table

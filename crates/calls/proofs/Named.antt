@@ -10,7 +10,7 @@ use Rattle.job.specs.Job.{Job, claim_of, literals_of}
 use Rattle.job.specs.Format.{job_of}
 use Rattle.job.specs.Encoding.{Valid}
 use Rattle.job.specs.Checks.{check_job}
-use Rattle.job.specs.declared.Check.TheVariants.{Accepted}
+use Rattle.job.specs.Check.{Accepted}
 use Rattle.semantics.specs.Leads.{LeadsTo}
 use Rattle.semantics.proofs.Leads.{used}
 use Rattle.table.specs.Layout as W

@@ -13,8 +13,9 @@ use Rattle.job.specs.Format.{job_of}
 use Rattle.job.specs.Job.{Job}
 use Rattle.job.specs.Rows.{◌⨾◌}
 use Rattle.job.specs.Checks.{check_job}
-use Rattle.job.specs.declared.Check.{Check}
-use Rattle.job.specs.declared.Check.TheVariants.{Accepted, Refused}
+use Rattle.job.specs.Check.{Check, Accepted}
+use Rattle.job.specs.declared.Refusal.{Refusal}
+use Rattle.std.specs.Prelude.{Ok, Err}
 use Rattle.job.proofs.Rows.{both, row-no}
 use Rattle.table.specs.Ranges.{check_table, InRange}
 use Rattle.table.specs.Reading.{reading_of}
@@ -25,17 +26,20 @@ use Rattle.steps.specs.Agreeing.{Agree}
 use Rattle.steps.proofs.Agreeing.{mark_same}
 use Rattle.steps.proofs.SameTurns.{turn-alike, run-alike}
 use Rattle.steps.proofs.SameChecks.{check_same}
-use Rattle.calls.specs.Calls.{check_turn_worker, check_schedule, check_claim_read, turn_check, turn_answer, run_check, tally, run_tally, run_answer, read_check, read_answer}
+use Rattle.calls.specs.Calls.{check_turn_worker, check_schedule, check_claim_read, turn_check, turn_answer, run_check, tally, run_answer, read_check, read_answer, answered}
 use Rattle.calls.specs.Lists.{Call, turning, running, reading, left, after, unless, made, turns_of, Event, run_events, events}
 use Rattle.calls.specs.Alike.{SameAnswers, Alike}
-use Rattle.calls.specs.declared.TurnAnswer
-use Rattle.calls.specs.declared.ReadAnswer
 use Rattle.calls.proofs.Histories.{low_all, turn-worker, run-workers, left-made, made-low}
 use Rattle.calls.proofs.OnLists.{ok}
 
-by-check : (P : Check → Type 0) → ((n p : ℕ) → P (Refused n p)) → (k : Check) → (Accepted ≡ k → P Accepted) → P k
+by-check : (P : Check → Type 0) → ((e : Refusal) → P (Err e)) → (k : Check) → (Accepted ≡ k → P Accepted) → P k
 by-check P f Accepted g = g refl
-by-check P f (Refused n p) g = f n p
+by-check P f (Err e) g = f e
+
+-- an answer by a check whose value is the same
+answered_same : {A : Type 0} (k : Check) {x y : A} → (Accepted ≡ k → x ≡ y) → answered k x ≡ answered k y
+unfolding answered
+answered_same k {x} {y} f = by-check (λ (k : Check). answered k x ≡ answered k y) (λ e. refl) k (λ q. ap Ok (f q))
 
 abbrev kinds_in : List Event → List Kind
 kinds_in es = map (λ (e : Event). e.kind) es
@@ -59,28 +63,21 @@ module _ (s : List ℕ) (e : Accepted ≡ check_job s) {t u : List ℕ} (a : Agr
 
   -- what the next call answers
   turn-answers : (w : ℕ) → turn_answer (turn_check s t w) s t w ≡ turn_answer (turn_check s u w) s u w
-  unfolding turn_check turn_answer
+  unfolding turn_check
   turn-answers w =
-      by-check (λ (k : Check). turn_answer k s t w ≡ turn_answer k s u w) (λ n p. refl) (turn_check s t w)
-      (λ q. ap TurnAnswer.TheVariants.Made (turn-alike (ok s e) a w (turn-worker s t w q) (in-range (check_turn_worker s w) q)).kind)
+      answered_same (turn_check s t w) (λ q. (turn-alike (ok s e) a w (turn-worker s t w q) (in-range (check_turn_worker s w) q)).kind)
       ∙ ap (λ (k : Check). turn_answer k s u w) (checks_same (check_turn_worker s w))
 
-  tallies_same : (ws : List ℕ) → run_tally (run_check s t ws) s t ws ≡ run_tally (run_check s u ws) s u ws
-  unfolding run_check run_tally
-  tallies_same ws =
-      by-check (λ (k : Check). run_tally k s t ws ≡ run_tally k s u ws) (λ n p. refl) (run_check s t ws)
-      (λ q. ap tally (run-alike (ok s e) ws (in-range (check_schedule s ws) q) a (low_all (job_of s) ws (run-workers s t ws q))).0)
-      ∙ ap (λ (k : Check). run_tally k s u ws) (checks_same (check_schedule s ws))
-
   run-answers : (ws : List ℕ) → run_answer s t ws ≡ run_answer s u ws
-  unfolding run_check run_answer
-  run-answers ws = ap₂ (λ (k : Check) (ns : List ℕ). record { check = k; tally = ns }) (checks_same (check_schedule s ws)) (tallies_same ws)
+  unfolding run_check
+  run-answers ws =
+      answered_same (run_check s t ws) (λ q. ap tally (run-alike (ok s e) ws (in-range (check_schedule s ws) q) a (low_all (job_of s) ws (run-workers s t ws q))).0)
+      ∙ ap (λ (k : Check). answered k (tally (run_kinds (job_of s) u ws))) (checks_same (check_schedule s ws))
 
   read-answers : (c : ℕ) → read_answer (read_check s t c) t c ≡ read_answer (read_check s u c) u c
-  unfolding read_check read_answer
+  unfolding read_check
   read-answers c =
-      by-check (λ (k : Check). read_answer k t c ≡ read_answer k u c) (λ n p. refl) (read_check s t c)
-      (λ q. ap (λ (m : ℕ). ReadAnswer.TheVariants.Read (reading_of m)) (mark_same a c (claim-read c q)))
+      answered_same (read_check s t c) (λ q. ap reading_of (mark_same a c (claim-read c q)))
       ∙ ap (λ (k : Check). read_answer k u c) (checks_same (check_claim_read s c))
 
   answers_same : SameAnswers s t u
@@ -97,9 +94,9 @@ module _ (s : List ℕ) (e : Accepted ≡ check_job s) {t u : List ℕ} (a : Agr
   none_or_range : (x : Call) → (made s t x ≡ []) ⊎ InRange (job_of s) t
   unfolding made unless turn_check run_check
   none_or_range (turning w) =
-      by-check (λ (k : Check). (unless k (w ∷ []) ≡ []) ⊎ InRange (job_of s) t) (λ n p. inl refl) (turn_check s t w) (λ q. inr (in-range (check_turn_worker s w) q))
+      by-check (λ (k : Check). (unless k (w ∷ []) ≡ []) ⊎ InRange (job_of s) t) (λ e. inl refl) (turn_check s t w) (λ q. inr (in-range (check_turn_worker s w) q))
   none_or_range (running ws) =
-      by-check (λ (k : Check). (unless k ws ≡ []) ⊎ InRange (job_of s) t) (λ n p. inl refl) (run_check s t ws) (λ q. inr (in-range (check_schedule s ws) q))
+      by-check (λ (k : Check). (unless k ws ≡ []) ⊎ InRange (job_of s) t) (λ e. inl refl) (run_check s t ws) (λ q. inr (in-range (check_schedule s ws) q))
   none_or_range (reading c) = inl refl
 
   run-made : (x : Call) → (run_kinds (job_of s) t (made s t x) ≡ run_kinds (job_of s) u (made s t x)) × Agree (job_of s) (run_table (job_of s) t (made s t x)) (run_table (job_of s) u (made s t x))

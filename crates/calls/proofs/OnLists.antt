@@ -12,7 +12,7 @@ use lib.ListN.{length, get_or}
 use Rattle.job.specs.Format.{job_of}
 use Rattle.job.specs.Encoding.{Valid}
 use Rattle.job.specs.Checks.{check_job}
-use Rattle.job.specs.declared.Check.TheVariants.{Accepted}
+use Rattle.job.specs.Check.{Accepted}
 use Rattle.job.proofs.Accepted.{well_formed}
 use Rattle.job.proofs.Valid.{well_formed-valid}
 use Rattle.semantics.specs.Model.{byte_of}

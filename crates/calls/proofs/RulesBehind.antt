@@ -15,7 +15,7 @@ use Rattle.job.specs.Job.{Job, Rule, claim_of, literals_of}
 use Rattle.job.specs.Format.{job_of}
 use Rattle.job.specs.Encoding.{Valid}
 use Rattle.job.specs.Checks.{check_job}
-use Rattle.job.specs.declared.Check.TheVariants.{Accepted}
+use Rattle.job.specs.Check.{Accepted}
 use Rattle.job.specs.declared.Literal.{Literal}
 use Rattle.job.specs.declared.Literal.TheVariants.{Plain, Negated}
 use Rattle.job.proofs.RuleEnds.{RuleAt, rule-at}

@@ -1,6 +1,6 @@
 -- The worked turns are accepted as calls, which is computed; so a run of one leaves what is stated for it. Assumes nothing.
 use Prim.Native.Nat.{ℕ}
-use mathlib.Core.Path.{◌≡◌, refl, sym, ◌∙◌, ap}
+use mathlib.Core.Path.{◌≡◌, refl, ◌∙◌, ap}
 use mathlib.Core.List.{List, map, flat_map}
 use Rattle.base.specs.Choose.{pick}
 use Rattle.base.specs.Compare.{under, over, not_below, differs}
@@ -13,8 +13,9 @@ use Rattle.job.specs.Format.{job_of, rule_at, body_length_at, missing_at, head_b
 use Rattle.job.specs.Rows.{◌⨾◌, row, scan}
 use Rattle.job.specs.Checks.{check_job, check_header, check_parts, check_length, check_total, check_counts, check_offsets, check_heads, check_bodies, check_literals, check_questions}
 use Rattle.job.specs.Encoding.{◌∈◌, encode, header_bytes, length_of}
-use Rattle.job.specs.declared.Check.{Check}
-use Rattle.job.specs.declared.Check.TheVariants.{Accepted}
+use Rattle.job.specs.Check.{Check, Accepted}
+use Rattle.job.specs.declared.Refusal.{Refusal}
+use Rattle.std.specs.Prelude.{Result, Err, IfOk}
 use Rattle.semantics.proofs.Fields.{mapped_at}
 use Rattle.table.specs.Questions.{positions_of, asked_by}
 use Rattle.table.specs.Layout.{header}
@@ -24,10 +25,8 @@ use Rattle.table.specs.Ranges.{each, check_room, marked, check_claim, check_work
 use Rattle.turn.specs.Turn.{run_table, run_kinds}
 use Rattle.turn.specs.Worked.{Case, cases}
 use Rattle.turn.proofs.Worked.{turns_right}
-use Rattle.calls.specs.Calls.{check_schedule, run_check, tally, run_tally, run_left, Ran, run_answer}
+use Rattle.calls.specs.Calls.{answered, check_schedule, run_check, tally, run_left, Ran, run_answer}
 use Rattle.calls.specs.Worked.{CasesRight, Worked}
-use Rattle.calls.specs.declared.RunAnswer.{RunAnswer}
-use Rattle.calls.proofs.Answering.{ran-answer}
 
 cases-accepted : map (λ c. run_check (encode c.job) c.before c.schedule) cases ≡ map (λ c. Accepted) cases
 unfolding run_check check_schedule check_table check_room check_words check_worker check_claim marked each count one check_job check_header check_parts check_length check_total check_counts check_offsets check_heads check_bodies check_literals check_questions ◌⨾◌ row scan under over not_below differs encode header_bytes length_of body_count word half body_length_at missing_at head_before body_start literal_of literals_of positions_of asked_by newest newer is_newer keep start_words header job_of rule_at span flat_map pick
@@ -43,27 +42,12 @@ module _ (c : Case) (m : c ∈ cases) where
   case_left : run_table c.job c.before c.schedule ≡ c.left
   case_left = mapped_at (λ d. run_table d.job d.before d.schedule) (λ d. d.left) cases turns_right.left c m
 
--- a run that is accepted made its turns
-module _ (s t ws : List ℕ) {r : RunAnswer} {u : List ℕ} (e : r ≡ run_answer s t ws) (f : u ≡ run_left (run_check s t ws) s t ws) where
-  made-tally : r.check ≡ Accepted → r.tally ≡ tally (run_kinds (job_of s) t ws)
-  unfolding run_answer run_tally
-  made-tally a = ap (λ (x : RunAnswer). x.tally) e ∙ ap (λ (x : Check). run_tally x s t ws) (ap (λ (x : RunAnswer). x.check) (sym e) ∙ a)
+-- a run that gave what its check says: accepted, it made its turns
+module _ (s t ws : List ℕ) where
+  stated : {r : Result (List ℕ) Refusal} {u : List ℕ} (k : Check) → Ran k s t ws r u → (c : Case) → c ∈ cases → job_of s ≡ c.job → t ≡ c.before → ws ≡ c.schedule → IfOk r (λ counts. (counts ≡ tally c.kinds) × (u ≡ c.left))
+  unfolding answered run_left
+  stated {r} {u} (Err refusal) m c i j b w = rw m.answer_is tt
+  stated {r} {u} Accepted m c i j b w = rw m.answer_is (ap tally (rw (j, b, w) (case-kinds c i)), m.table_is ∙ rw (j, b, w) (case_left c i))
 
-  made_left : r.check ≡ Accepted → u ≡ run_table (job_of s) t ws
-  unfolding run_answer run_left
-  made_left a = f ∙ ap (λ (x : Check). run_left x s t ws) (ap (λ (x : RunAnswer). x.check) (sym e) ∙ a)
-
-  pub worked : Worked s t ws r u
-  worked =
-      record {
-        right = cases_right;
-        made =
-            λ c m j b w a. (
-              made-tally a ∙ ap tally (rw (j, b, w) (case-kinds c m)),
-              made_left a ∙ rw (j, b, w) (case_left c m),
-            );
-      }
-
--- a run that gave what its check says
-pub worked-answer : (s t ws : List ℕ) {r : RunAnswer} {u : List ℕ} → Ran (run_check s t ws) s t ws r u → (r ≡ run_answer s t ws) × ((u ≡ run_left (run_check s t ws) s t ws) × Worked s t ws r u)
-worked-answer s t ws m = let a = ran-answer s t ws m in (a.0, (a.1, worked s t ws a.0 a.1))
+  pub worked-answer : {r : Result (List ℕ) Refusal} {u : List ℕ} → Ran (run_check s t ws) s t ws r u → (r ≡ run_answer s t ws) × (u ≡ run_left (run_check s t ws) s t ws) × Worked s t ws r u
+  worked-answer m = (m.answer_is, m.table_is, record { right = cases_right; made = stated (run_check s t ws) m })

@@ -2,28 +2,34 @@
 --   check_turn_worker, check_schedule, check_claim_read   rows 11 and 12
 --   start_check, turn_check, run_check, read_check   the rows that a call checks, in the table's order
 --   start_table, turn_table, run_left                the table at exit
+--   answered check x, refused number place           an answer: the refusal of a check, or else x; a refusal
 --   turn_answer, run_answer, read_answer             the answer
+--   run_tally                                        how many turns of each kind a run makes, none where it is refused
 --   Named s ws                                       the schedule ws names workers of the job
 --   Ran check s t ws r u                             a run gave what its check says: the answer r, the table u
 --   tally ks                                         how many turns were of each kind
-use Rattle.std.specs.Prelude.{ℕ, ◌+◌, ◌<◌, List, [], ◌∷◌, ◌≡◌, length, get_or, set, replicate}
+use Rattle.std.specs.Prelude.{ℕ, ◌+◌, ◌<◌, List, [], ◌∷◌, ◌≡◌, length, get_or, set, replicate, Result, Ok, Err}
 use Rattle.base.specs.Compare.{not_below}
 use Rattle.job.specs.Rows.{◌⨾◌, row, scan}
 use Rattle.job.specs.Format.{claims, workers, job_of}
 use Rattle.job.specs.Checks.{check_job}
-use Rattle.job.specs.declared.Check.{Check}
-use Rattle.job.specs.declared.Check.TheVariants.{Accepted, Refused}
+use Rattle.job.specs.Check.{Check, Accepted}
+use Rattle.job.specs.declared.Refusal.{Refusal}
 use Rattle.table.specs.Layout.{mark}
 use Rattle.table.specs.Ranges.{check_room, check_table}
 use Rattle.table.specs.Start.{start_words}
 use Rattle.table.specs.Reading.{reading_of}
+use Rattle.table.specs.declared.Reading.{Reading}
 use Rattle.turn.specs.Turn.{kind_number, turn, run_table, run_kinds}
 use Rattle.turn.specs.declared.Kind.{Kind}
-use Rattle.calls.specs.declared.TurnAnswer.{TurnAnswer}
-use Rattle.calls.specs.declared.TurnAnswer
-use Rattle.calls.specs.declared.RunAnswer.{RunAnswer}
-use Rattle.calls.specs.declared.ReadAnswer.{ReadAnswer}
-use Rattle.calls.specs.declared.ReadAnswer
+
+-- "A refusal gives number and place": and no more, where what is accepted has an answer
+unfoldable pub answered : {A : Type 0} → Check → A → Result A Refusal
+answered Accepted x = Ok x
+answered (Err refusal) x = Err refusal
+
+abbrev pub refused : {A : Type 0} → ℕ → ℕ → Result A Refusal
+refused number place = Err (record { number = number; place = place })
 
 -- "Starting skips 10."
 unfoldable pub start_check : List ℕ → List ℕ → Check
@@ -31,7 +37,7 @@ start_check s t = check_job s ⨾ check_room (job_of s) t
 
 unfoldable pub start_table : Check → List ℕ → List ℕ → List ℕ
 start_table Accepted s t = start_words (job_of s) t
-start_table (Refused number place) s t = t
+start_table (Err refusal) s t = t
 
 -- worker, schedule | 11 | not below T | 0, or position in the schedule from 0
 unfoldable pub check_turn_worker : List ℕ → ℕ → Check
@@ -57,13 +63,12 @@ unfoldable pub read_check : List ℕ → List ℕ → ℕ → Check
 read_check s t c = check_job s ⨾ check_table (job_of s) t ⨾ check_claim_read s c
 
 -- "A turn answers its kind."
-unfoldable pub turn_answer : Check → List ℕ → List ℕ → ℕ → TurnAnswer
-turn_answer Accepted s t w = TurnAnswer.TheVariants.Made (turn (job_of s) t w).kind
-turn_answer (Refused number place) s t w = TurnAnswer.TheVariants.Refused number place
+abbrev pub turn_answer : Check → List ℕ → List ℕ → ℕ → Result Kind Refusal
+turn_answer check s t w = answered check (turn (job_of s) t w).kind
 
 unfoldable pub turn_table : Check → List ℕ → List ℕ → ℕ → List ℕ
 turn_table Accepted s t w = (turn (job_of s) t w).table
-turn_table (Refused number place) s t w = t
+turn_table (Err refusal) s t w = t
 
 -- "A run takes a schedule, one byte a turn, and answers its tally as an array of eight counts by value."
 unfoldable pub counted : List ℕ → List Kind → List ℕ
@@ -75,21 +80,19 @@ tally ks = counted (replicate 8 0) ks
 
 unfoldable pub run_tally : Check → List ℕ → List ℕ → List ℕ → List ℕ
 run_tally Accepted s t ws = tally (run_kinds (job_of s) t ws)
-run_tally (Refused number place) s t ws = replicate 8 0
+run_tally (Err refusal) s t ws = replicate 8 0
 
 unfoldable pub run_left : Check → List ℕ → List ℕ → List ℕ → List ℕ
 run_left Accepted s t ws = run_table (job_of s) t ws
-run_left (Refused number place) s t ws = t
+run_left (Err refusal) s t ws = t
 
-pub record Ran (check : Check) (s t ws : List ℕ) (r : RunAnswer) (u : List ℕ) : Type 0 where
-  pub check_is : r.check ≡ check
-  pub tally_is : r.tally ≡ run_tally check s t ws
+pub record Ran (check : Check) (s t ws : List ℕ) (r : Result (List ℕ) Refusal) (u : List ℕ) : Type 0 where
+  pub answer_is : r ≡ answered check (tally (run_kinds (job_of s) t ws))
   pub table_is : u ≡ run_left check s t ws
 
-unfoldable pub run_answer : List ℕ → List ℕ → List ℕ → RunAnswer
-run_answer s t ws = record { check = run_check s t ws; tally = run_tally (run_check s t ws) s t ws }
+abbrev pub run_answer : List ℕ → List ℕ → List ℕ → Result (List ℕ) Refusal
+run_answer s t ws = answered (run_check s t ws) (tally (run_kinds (job_of s) t ws))
 
 -- "Reading a claim answers fresh, open or its value."
-unfoldable pub read_answer : Check → List ℕ → ℕ → ReadAnswer
-read_answer Accepted t c = ReadAnswer.TheVariants.Read (reading_of (mark t c))
-read_answer (Refused number place) t c = ReadAnswer.TheVariants.Refused number place
+abbrev pub read_answer : Check → List ℕ → ℕ → Result Reading Refusal
+read_answer check t c = answered check (reading_of (mark t c))

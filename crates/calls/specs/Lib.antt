@@ -1,5 +1,4 @@
 pub mod Calls
-pub mod Rooms
 pub mod Lists
 pub mod Taken
 pub mod Worked

@@ -9,12 +9,11 @@
 --   answer_of j es w k  the answer of w's question k: what reading its claim gave when it was answered, as a number 1 to 3
 --   AllAnswered         all questions are answered
 --   Complete t c        reading claim c answers a value
-use Rattle.std.specs.Prelude.{ℕ, ◌+◌, ◌-◌, ◌<◌, ◌≤◌, Bool, ◌&&◌, List, [], ◌∷◌, ◌++◌, eqb, length}
+use Rattle.std.specs.Prelude.{ℕ, ◌+◌, ◌-◌, ◌<◌, ◌≤◌, Bool, ◌&&◌, List, [], ◌∷◌, ◌++◌, eqb, length, Err}
 use Rattle.base.specs.Choose.{pick}
 use Rattle.job.specs.Job.{Job}
 use Rattle.job.specs.Format.{job_of}
-use Rattle.job.specs.declared.Check.{Check}
-use Rattle.job.specs.declared.Check.TheVariants.{Accepted, Refused}
+use Rattle.job.specs.Check.{Check, Accepted}
 use Rattle.table.specs.Questions.{asked_by, question_claim}
 use Rattle.table.specs.Layout.{mark}
 use Rattle.table.specs.Reading.{reading_of, reading_value}
@@ -41,7 +40,7 @@ after s t (x ∷ xs) = after s (left s t x) xs
 -- "An accepted turn makes one turn. An accepted run makes those its schedule names, in order. A refused call and a reading make none."
 unfoldable pub unless : Check → List ℕ → List ℕ
 unless Accepted ws = ws
-unless (Refused number place) ws = []
+unless (Err refusal) ws = []
 
 unfoldable pub made : List ℕ → List ℕ → Call → List ℕ
 made s t (turning w) = unless (turn_check s t w) (w ∷ [])

@@ -15,7 +15,7 @@ use Rattle.job.specs.Job.{Job, Rule, claim_of, literal_count}
 use Rattle.job.specs.Format.{job_of}
 use Rattle.job.specs.Encoding.{encode, ◌∈◌}
 use Rattle.job.specs.Checks.{check_job}
-use Rattle.job.specs.declared.Check.TheVariants.{Accepted}
+use Rattle.job.specs.Check.{Accepted}
 use Rattle.job.specs.declared.Literal.{Literal}
 use Rattle.job.specs.declared.Question.{Question}
 use Rattle.semantics.specs.Model.{program_of, False, verdict, literal_verdict, byte_of, exchange, known_of}

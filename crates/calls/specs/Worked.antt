@@ -1,20 +1,20 @@
 -- The worked turns (turn/specs/Worked) as runs: each is accepted, and a run of one leaves what is stated for it.
 --   CasesRight      all of them are accepted as calls, are of the kinds stated, and leave the tables stated
 --   Worked          the same of a run that is one of them, of job bytes s from a table t with the schedule ws: its answer r, the table u
-use Rattle.std.specs.Prelude.{ℕ, ◌≡◌, List, map}
+use Rattle.std.specs.Prelude.{ℕ, ◌≡◌, List, map, Result, IfOk}
 use Rattle.job.specs.Format.{job_of}
 use Rattle.job.specs.Encoding.{encode, ◌∈◌}
-use Rattle.job.specs.declared.Check.TheVariants.{Accepted}
+use Rattle.job.specs.Check.{Accepted}
+use Rattle.job.specs.declared.Refusal.{Refusal}
 use Rattle.turn.specs.Worked.{Case, cases, TurnsRight}
 use Rattle.calls.specs.Calls.{run_check, tally}
-use Rattle.calls.specs.declared.RunAnswer.{RunAnswer}
 
 pub record CasesRight : Type 0 where
   pub accepted : map (λ c. run_check (encode c.job) c.before c.schedule) cases ≡ map (λ c. Accepted) cases
   pub turns : TurnsRight
 
-pub record Worked (s t ws : List ℕ) (r : RunAnswer) (u : List ℕ) : Type 0 where
+pub record Worked (s t ws : List ℕ) (r : Result (List ℕ) Refusal) (u : List ℕ) : Type 0 where
   pub right : CasesRight
   pub made :
-      (c : Case) → c ∈ cases → job_of s ≡ c.job → t ≡ c.before → ws ≡ c.schedule → r.check ≡ Accepted
-      → (r.tally ≡ tally c.kinds) × (u ≡ c.left)
+      (c : Case) → c ∈ cases → job_of s ≡ c.job → t ≡ c.before → ws ≡ c.schedule
+      → IfOk r (λ counts. (counts ≡ tally c.kinds) × (u ≡ c.left))

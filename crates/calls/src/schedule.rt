@@ -1,52 +1,49 @@
 // The schedule of a run: its check, and its turns, one after the other. The contracts cite `run_table` and `run_kinds` of the turn's specs, and
 // `check_schedule` and `tally` of specs/Calls.
 ghost use Rattle.std.specs.Prelude.{◌≡◌, ◌≤◌};
-ghost use Rattle.job.specs.Accepted.{WellFormed};
 ghost use Rattle.job.specs.Format.{claims, job_of};
+ghost use Rattle.job.specs.Job.{most_claims};
 ghost use Rattle.table.specs.Questions.{Listed};
 ghost use Rattle.turn.specs.Turn.{run_table, run_kinds};
 ghost use Rattle.calls.specs.Calls.{Named, check_schedule, tally as tally_of};
-ghost use Rattle.calls.specs.Rooms.{Room};
 ghost use Rattle.turn.specs.Ready.{Ready};
+ghost use Rattle.turn.specs.KeptSet.{Keeps};
 
 use crate::tally;
-use base::wide;
-use job::{Check, ClaimIndex, format};
+use job::checks::MOST_CLAIMS;
+use job::{Check, ClaimIndex, Job, Refusal};
 use table::QuestionIndex;
-use turn::{Kept, single};
+use turn::HeldSet;
+use turn::single::FEW_CLAIMS;
 
 // The turns that the schedule names, and their tally, with room for what is kept from turn to turn.
 fn run_in(
-    job: &[u8],
+    job: &Job,
     index: &ClaimIndex,
     asked: &QuestionIndex,
     table: &mut [u32],
     schedule: &[u8],
-    place: &mut [u16],
-    members: &mut [u16],
+    set: &mut HeldSet<'_>,
 ) -> [u64; 8]
     requires ready { Ready job.now index.now table.old × Listed (job_of job.now) asked.now }
     requires named { Named job.now schedule.now }
-    requires room { Room job.now place.old members.old }
+    requires keeps { Keeps (job_of job.now) table.old set.old.kept set.old.place.now set.old.members.now }
     ensures value { result ≡ tally_of (run_kinds (job_of job.now) table.old schedule.now) }
     ensures table_after { table.new ≡ run_table (job_of job.now) table.old schedule.now }
 {
-    let mut counts = tally::no_turns();
-    let mut kept = Kept::nothing();
-    for i in 0..schedule.len() {
-        let w = wide::byte(schedule[i]);
-        let taken = turn::take_turn(job, index, asked, table, w, kept, place, members);
-        let kind = taken.kind;
+    let mut counts = [0u64; 8];
+    for &worker in schedule {
+        let w = usize::from(worker);
+        let kind = turn::take_turn(job, index, asked, table, w, set);
         let next = tally::counted(counts, kind);
         counts = next;
-        kept = taken.kept;
     }
     counts
 }
 
-// The turns of a run on a small job.
-fn run_few(
-    job: &[u8],
+// The turns of a run on a job of at most ROOM claims.
+fn run_sized<const ROOM: usize>(
+    job: &Job,
     index: &ClaimIndex,
     asked: &QuestionIndex,
     table: &mut [u32],
@@ -54,54 +51,20 @@ fn run_few(
 ) -> [u64; 8]
     requires ready { Ready job.now index.now table.old × Listed (job_of job.now) asked.now }
     requires named { Named job.now schedule.now }
-    requires job_bound { claims job.now ≤ 64 }
+    requires fits { (claims job.now ≤ ROOM) × (ROOM ≤ most_claims) }
     ensures value { result ≡ tally_of (run_kinds (job_of job.now) table.old schedule.now) }
     ensures table_after { table.new ≡ run_table (job_of job.now) table.old schedule.now }
 {
-    let claims = format::claim_count(job);
-    let mut place = single::few_numbers();
-    let mut members = single::few_numbers();
-    run_in(
-        job,
-        index,
-        asked,
-        table,
-        schedule,
-        &mut place[..claims],
-        &mut members[..],
-    )
-}
-
-// The turns of a run on any.
-fn run_any(
-    job: &[u8],
-    index: &ClaimIndex,
-    asked: &QuestionIndex,
-    table: &mut [u32],
-    schedule: &[u8],
-) -> [u64; 8]
-    requires ready { Ready job.now index.now table.old × Listed (job_of job.now) asked.now }
-    requires named { Named job.now schedule.now }
-    ensures value { result ≡ tally_of (run_kinds (job_of job.now) table.old schedule.now) }
-    ensures table_after { table.new ≡ run_table (job_of job.now) table.old schedule.now }
-{
-    let claims = format::claim_count(job);
-    let mut place = single::no_numbers();
-    let mut members = single::no_numbers();
-    run_in(
-        job,
-        index,
-        asked,
-        table,
-        schedule,
-        &mut place[..claims],
-        &mut members[..],
-    )
+    let claims = job.claim_count();
+    let mut place = [0u16; ROOM];
+    let mut members = [0u16; ROOM];
+    let mut set = HeldSet::new(&mut place[..claims], &mut members[..claims]);
+    run_in(job, index, asked, table, schedule, &mut set)
 }
 
 // The turns that the schedule names, and their tally.
 pub fn run_turns(
-    job: &[u8],
+    job: &Job,
     index: &ClaimIndex,
     asked: &QuestionIndex,
     table: &mut [u32],
@@ -113,25 +76,22 @@ pub fn run_turns(
     ensures value { result ≡ tally_of (run_kinds (job_of job.now) table.old schedule.now) }
     ensures table_after { table.new ≡ run_table (job_of job.now) table.old schedule.now }
 {
-    if format::claim_count(job) <= single::FEW_CLAIMS {
-        return run_few(job, index, asked, table, schedule);
+    if job.claim_count() <= FEW_CLAIMS {
+        return run_sized::<FEW_CLAIMS>(job, index, asked, table, schedule);
     }
-    run_any(job, index, asked, table, schedule)
+    run_sized::<MOST_CLAIMS>(job, index, asked, table, schedule)
 }
 
 // Row 11 of a run: every worker that the schedule names is one of the job's.
-pub fn check_schedule(job: &[u8], schedule: &[u8]) -> Check
-    requires { WellFormed job.now }
+pub fn check_schedule(job: &Job, schedule: &[u8]) -> Check
     ensures { result ≡ check_schedule job.now schedule.now }
 {
-    let workers = format::worker_count(job);
-    for i in 0..schedule.len() {
-        if workers <= wide::byte(schedule[i]) {
-            return Check::Refused {
-                number: 11,
-                place: i,
-            };
-        }
+    let workers = job.worker_count();
+    match schedule
+        .iter()
+        .position(|&worker| workers <= usize::from(worker))
+    {
+        Some(place) => Err(Refusal { number: 11, place }),
+        None => Ok(()),
     }
-    Check::Accepted
 }

@@ -1,7 +1,7 @@
 -- The parts of the form, as each function writes its own. Assumes nothing.
 --   records_fit, bodies_fit, asks_fit   each part has room behind those before it
 --   formed                              together they are the bytes of the form
-use Prim.Native.Nat.{ℕ, ◌+◌, ◌*◌, ◌≤◌}
+use Prim.Native.Nat.{ℕ, ◌*◌}
 use mathlib.Core.Path.{◌≡◌, ◌∙◌, ap}
 use mathlib.Core.List.{List, flat_map}
 use native.Mathlib.Omega.{arith}
@@ -9,8 +9,9 @@ use lib.ListN.{length}
 use Rattle.job.specs.Job.{Job}
 use Rattle.job.specs.Format.{job_of}
 use Rattle.job.specs.Encoding.{header_bytes, rule_bytes, body_bytes, question_bytes, encode}
-use Rattle.writing.specs.Written.{Put}
-use Rattle.writing.proofs.Wrote.{put_as}
+use Rattle.writing.specs.Writes.{Writes, HasRoom}
+use Rattle.writing.specs.declared.writer.Writer.{Writer}
+use Rattle.writing.proofs.Writing.{writes_as}
 use Rattle.forms.specs.Form.{form}
 use Rattle.canon.specs.Kept.{line_at, Bodies, InOrder}
 use Rattle.canon.specs.Sizes.{kept_bytes}
@@ -37,23 +38,23 @@ module _ {job s starts sizes order : List ℕ} (b : Bodies job s starts sizes) (
   asks_are : flat_map question_bytes formed-job.questions ≡ asks
   asks_are = ap (flat_map question_bytes) (asks-form job)
 
-  module _ {out : List ℕ} (fits : length (encode formed-job) ≤ length out) {o₁ : List ℕ} {i : ℕ} (p₁ : Put out 0 (header_bytes formed-job) o₁ i) where
-    pub records_fit : i + 4 * length order ≤ length o₁
-    records_fit = omega (arith, records-room formed-job out fits o₁ i p₁, rules-form o)
+  module _ {w : Writer} (room : HasRoom w (length (encode formed-job))) {w₁ : Writer} (p₁ : Writes w w₁ (header_bytes formed-job)) where
+    pub records_fit : HasRoom w₁ (4 * length order)
+    records_fit = omega (arith, records-room formed-job w room w₁ p₁, rules-form o)
 
-    module _ {o₂ : List ℕ} {k : ℕ} (p₂ : Put o₁ i records o₂ k) where
-      put₂ : Put o₁ i (flat_map rule_bytes formed-job.rules) o₂ k
-      put₂ = put_as p₂ (lines_flat o rule_bytes)
+    module _ {w₂ : Writer} (p₂ : Writes w₁ w₂ records) where
+      records-written : Writes w₁ w₂ (flat_map rule_bytes formed-job.rules)
+      records-written = writes_as p₂ (lines_flat o rule_bytes)
 
-      pub bodies_fit : k + length bodies ≤ length o₂
-      bodies_fit = omega (arith, bodies-room formed-job out fits o₁ i p₁ o₂ k put₂, ap length bodies_are)
+      pub bodies_fit : HasRoom w₂ (length bodies)
+      bodies_fit = omega (arith, bodies-room formed-job w room w₁ p₁ w₂ records-written, ap length bodies_are)
 
-      module _ {o₃ : List ℕ} {m : ℕ} (p₃ : Put o₂ k bodies o₃ m) where
-        put₃ : Put o₂ k (flat_map body_bytes formed-job.rules) o₃ m
-        put₃ = put_as p₃ bodies_are
+      module _ {w₃ : Writer} (p₃ : Writes w₂ w₃ bodies) where
+        bodies-written : Writes w₂ w₃ (flat_map body_bytes formed-job.rules)
+        bodies-written = writes_as p₃ bodies_are
 
-        pub asks_fit : m + length asks ≤ length o₃
-        asks_fit = omega (arith, asks-room formed-job out fits o₁ i p₁ o₂ k put₂ o₃ m put₃, ap length asks_are)
+        pub asks_fit : HasRoom w₃ (length asks)
+        asks_fit = omega (arith, asks-room formed-job w room w₁ p₁ w₂ records-written w₃ bodies-written, ap length asks_are)
 
-        pub formed : {o₄ : List ℕ} {r : ℕ} → Put o₃ m asks o₄ r → Put out 0 (encode formed-job) o₄ r
-        formed {o₄} {r} p₄ = joined formed-job out fits o₁ i p₁ o₂ k put₂ o₃ m put₃ o₄ r (rw asks_are p₄)
+        pub formed : {w₄ : Writer} → Writes w₃ w₄ asks → Writes w w₄ (encode formed-job)
+        formed {w₄} p₄ = joined formed-job w room w₁ p₁ w₂ records-written w₃ bodies-written w₄ (rw asks_are p₄)

@@ -18,7 +18,7 @@ use Rattle.forms.specs.Form.{form}
 use Rattle.canon.specs.Kept.{line_at, InOrder}
 use Rattle.canon.specs.Sizes.{Sizes, sizes_of}
 use Rattle.canon.proofs.Handed.{sizes_count}
-use Rattle.canon.proofs.Parts.{encode_size}
+use Rattle.job.proofs.Questions.{encode_size}
 
 claims-form : (job : List ℕ) → (form (job_of job)).claims ≡ claims job
 unfolding form job_of

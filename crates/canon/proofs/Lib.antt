@@ -4,7 +4,6 @@ pub mod MergeLoop
 pub mod Rising
 pub mod SortedParts
 pub mod Withins
-pub mod LiteralFields
 pub mod Ranked
 pub mod Handed
 pub mod Records

@@ -1,11 +1,12 @@
 -- One rule of the form, as it is written: its record, its literals. Assumes nothing.
 --   length-missing, length-kept   the length field of a line
 --   record_put                    a line's record is its head and that field
---   body-room, body_put           the literals kept of a rule, as a slice of s
+--   body-part                     the literals kept of a rule, as a slice of s
+--   body-room                     there is room for their bytes
 use Prim.Native.Nat.{ℕ, ◌+◌, ◌*◌, ◌-◌, ◌<◌, ◌≤◌}
 use mathlib.Core.Path.{◌≡◌, refl, sym, ◌∙◌, ap, ap₂}
 use mathlib.Core.Bool.{true, false}
-use mathlib.Core.List.{List, ◌++◌, flat_map}
+use mathlib.Core.List.{List, ◌++◌}
 use native.Mathlib.Omega.{arith}
 use lib.ListN.{length, get_or, take, drop}
 use Rattle.job.specs.Job.{missing_length}
@@ -41,14 +42,13 @@ record_put job i x n out o out' at a r l e f p q =
 
 -- the m literals kept of rule i, from place a on
 module _ (s starts sizes : List ℕ) (i a m : ℕ) (f : a ≡ get_or starts i 0) (g : m ≡ get_or sizes i 0) where
-  body-part : take (a + m - a) (drop a s) ≡ fields_at s starts sizes i
+  pub body-part : take (a + m - a) (drop a s) ≡ fields_at s starts sizes i
   unfolding fields_at
   body-part =
       let e : a + m - a ≡ get_or sizes i 0 = omega arith in
       ap₂ (λ (x y : ℕ). take x (drop y s)) e f
 
-  pub body-room : (at room : ℕ) → at + length (kept_bytes s starts sizes i) ≤ room → at + 2 * length (take (a + m - a) (drop a s)) ≤ room
-  body-room at room l = omega (arith, ap length body-part, flat-length (λ x. half_bytes x) 2 (fields_at s starts sizes i) (λ x. refl), l)
-
-  pub body_put : {out out' : List ℕ} {at r : ℕ} → Put out at (flat_map (λ x. half_bytes x) (take (a + m - a) (drop a s))) out' r → Put out at (kept_bytes s starts sizes i) out' r
-  body_put p = put_as p (ap (flat_map (λ x. half_bytes x)) body-part)
+-- the literals kept of rule i
+module _ (s starts sizes t : List ℕ) (i : ℕ) (e : t ≡ fields_at s starts sizes i) where
+  pub body-room : (at room : ℕ) → at + length (kept_bytes s starts sizes i) ≤ room → at + 2 * length t ≤ room
+  body-room at room l = omega (arith, ap length e, flat-length (λ x. half_bytes x) 2 (fields_at s starts sizes i) (λ x. refl), l)

@@ -1,6 +1,6 @@
 -- How many literals the rules of `order` have, rule by rule. Assumes nothing.
 --   Summing sizes order n k   those of its first k rules are n
---   summing_start, -inside, -room, _more, _end   none yet; the next rule has a size; the sum fits; one rule more; all
+--   summing-room, _more, _end   the sum fits; one rule more; all
 use Prim.Native.Nat.{ℕ, ◌+◌, ◌<◌, ◌≤◌}
 use mathlib.Core.Path.{◌≡◌, sym, ◌∙◌, ap}
 use mathlib.Core.List.{List}
@@ -17,15 +17,9 @@ pub record Summing (sizes order : List ℕ) (n k : ℕ) : Type 0 where
   pub small : sizes_of sizes order < 18446744073709551616
   pub left : n + sizes_of sizes (drop k order) ≡ sizes_of sizes order
 
-pub summing_start : {sizes order : List ℕ} → Within order (length sizes) → sizes_of sizes order < 18446744073709551616 → Summing sizes order 0 0
-summing_start w s = record { most = omega arith; within = w; small = s; left = omega arith }
-
 module _ {sizes order : List ℕ} {n k : ℕ} (a : Summing sizes order n k) where
   -- x is how many the next rule has, as it was read; i is that rule
   module _ (i x : ℕ) (e : i ≡ get_or order k 0) (f : x ≡ get_or sizes i 0) (h : k < length order) where
-    pub summing-inside : i < length sizes
-    summing-inside = omega (arith, a.within.below k h)
-
     next : sizes_of sizes (drop k order) ≡ x + sizes_of sizes (drop (k + 1) order)
     unfolding sizes_of
     next =

@@ -11,22 +11,4 @@ mod literals;
 mod merging;
 mod ranks;
 mod rooms;
-mod rules;
 mod write;
-
-use job::Check;
-
-// What the call answers: the check, and how many bytes the form has (0 where the job is refused).
-#[derive(Clone, Copy)]
-pub struct CanonicalJob {
-    pub check: Check,
-    pub length: usize,
-}
-
-// Which of two things comes first.
-#[derive(Clone, Copy)]
-pub enum Comparison {
-    Earlier,
-    Equal,
-    Later,
-}

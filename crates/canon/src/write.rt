@@ -1,9 +1,7 @@
-// The form written: header, rule records, literals, questions. Each function writes at `at` and answers the place after what it wrote.
-// The contracts cite specs/Kept, specs/Sizes and job/specs/Encoding.
+// The form written: header, rule records, literals, questions. The contracts cite specs/Kept, specs/Sizes and job/specs/Encoding.
 ghost use Rattle.std.specs.Prelude.{◌≡◌, ◌+◌, ◌*◌, ◌<◌, ◌≤◌, length};
 ghost use mathlib.Core.List.{flat_map};
-ghost use Rattle.writing.specs.Written.{Put};
-ghost use Rattle.job.specs.Accepted.{WellFormed};
+ghost use Rattle.writing.specs.Writes.{Writes, HasRoom};
 ghost use Rattle.job.specs.Format.{rules, job_of};
 ghost use Rattle.job.specs.Encoding.{half_bytes, header_bytes, length_of, rule_bytes, question_bytes, encode};
 ghost use Rattle.forms.specs.Form.{form};
@@ -11,10 +9,11 @@ ghost use Rattle.base.specs.Lists.{Within};
 ghost use Rattle.canon.specs.Kept.{line_at, Bodies, InOrder};
 ghost use Rattle.canon.specs.Sizes.{Sizes, sizes_of, Held, HeldAll, kept_bytes};
 
-use base::wide;
-use fields::words;
-use job::format;
-use writing::put;
+use crate::ranks;
+use fields::header::{self, Counts};
+use fields::little_endian;
+use job::{Job, format};
+use writing::Writer;
 
 // How many literals the rules of `order` have.
 fn count_literals(sizes: &[u16], order: &[u16]) -> usize
@@ -22,129 +21,111 @@ fn count_literals(sizes: &[u16], order: &[u16]) -> usize
     ensures { result ≡ sizes_of sizes.now order.now }
 {
     let mut n: usize = 0;
-    for k in 0..order.len() {
-        n += wide::half(sizes[wide::half(order[k])]);
+    for &i in order {
+        n += usize::from(sizes[usize::from(i)]);
     }
     n
 }
 
 // The header: the counts of claims, workers and questions are the job's.
-fn put_counts(out: &mut [u8], job: &[u8], sizes: &[u16], order: &[u16]) -> usize
-    requires well_formed { WellFormed job.now × Sizes job.now sizes.now × InOrder job.now order.now }
-    requires job_in_bounds { length (encode (form (job_of job.now))) ≤ length out.old }
-    ensures { Put out.old 0 (header_bytes (form (job_of job.now))) out.new result }
+fn put_counts(out: &mut Writer, job: &Job, sizes: &[u16], order: &[u16])
+    requires sizes { Sizes job.now sizes.now × InOrder job.now order.now }
+    requires room { HasRoom out.old (length (encode (form (job_of job.now)))) }
+    ensures { Writes out.old out.new (header_bytes (form (job_of job.now))) }
 {
-    let literals = count_literals(sizes, order);
-    words::put_header(
-        out,
-        format::claim_count(job),
-        order.len(),
-        literals,
-        format::worker_count(job),
-        format::question_count(job),
-    )
+    let counts = Counts {
+        claims: job.claim_count(),
+        rules: order.len(),
+        literals: count_literals(sizes, order),
+        workers: job.worker_count(),
+        questions: job.question_count(),
+    };
+    header::put_header(out, counts);
 }
 
 // The body length of rule i, as it is written.
-fn length_field(job: &[u8], sizes: &[u16], i: usize) -> usize
-    requires { WellFormed job.now × Sizes job.now sizes.now × (i < rules job.now) }
+fn length_field(job: &Job, sizes: &[u16], i: usize) -> usize
+    requires { Sizes job.now sizes.now × (i < rules job.now) }
     ensures { result ≡ length_of (line_at job.now i) }
 {
-    if format::missing_at(job, i) {
+    if job.missing_at(i) {
         return format::MISSING;
     }
-    wide::half(sizes[i])
+    usize::from(sizes[i])
 }
 
 // A rule's record: head and body length.
-fn put_record(out: &mut [u8], at: usize, job: &[u8], sizes: &[u16], i: usize) -> usize
-    requires well_formed { WellFormed job.now × Sizes job.now sizes.now × (i < rules job.now) }
-    requires at_in_bounds { at + 4 ≤ length out.old }
-    ensures { Put out.old at (rule_bytes (line_at job.now i)) out.new result }
+fn put_record(out: &mut Writer, job: &Job, sizes: &[u16], i: usize)
+    requires sizes { Sizes job.now sizes.now × (i < rules job.now) }
+    requires room { HasRoom out.old 4 }
+    ensures { Writes out.old out.new (rule_bytes (line_at job.now i)) }
 {
-    let a = words::put_half(out, at, format::head_at(job, i));
-    words::put_half(out, a, length_field(job, sizes, i))
+    little_endian::put_half(out, job.head_at(i));
+    little_endian::put_half(out, length_field(job, sizes, i));
 }
 
-fn put_records(out: &mut [u8], at: usize, job: &[u8], sizes: &[u16], order: &[u16]) -> usize
-    requires well_formed { WellFormed job.now × Sizes job.now sizes.now × Within order.now (rules job.now) }
-    requires order_in_bounds { at + 4 * length order.now ≤ length out.old }
-    ensures { Put out.old at (flat_map (λ i. rule_bytes (line_at job.now i)) order.now) out.new result }
+fn put_records(out: &mut Writer, job: &Job, sizes: &[u16], order: &[u16])
+    requires sizes { Sizes job.now sizes.now × Within order.now (rules job.now) }
+    requires room { HasRoom out.old (4 * length order.now) }
+    ensures { Writes out.old out.new (flat_map (λ i. rule_bytes (line_at job.now i)) order.now) }
 {
-    let mut to = at;
-    for k in 0..order.len() {
-        to = put_record(out, to, job, sizes, wide::half(order[k]));
+    for &i in order {
+        put_record(out, job, sizes, usize::from(i));
     }
-    to
 }
 
 // Literals, one after the other.
-fn put_literals(out: &mut [u8], at: usize, s: &[u16]) -> usize
-    requires { at + 2 * length s.now ≤ length out.old }
-    ensures { Put out.old at (flat_map (λ x. half_bytes x) s.now) out.new result }
+fn put_literals(out: &mut Writer, s: &[u16])
+    requires { HasRoom out.old (2 * length s.now) }
+    ensures { Writes out.old out.new (flat_map (λ x. half_bytes x) s.now) }
 {
-    let mut to = at;
-    for k in 0..s.len() {
-        to = words::put_half(out, to, wide::half(s[k]));
+    for &x in s {
+        little_endian::put_half(out, usize::from(x));
     }
-    to
 }
 
 // The literals kept of rule i.
-fn put_body(out: &mut [u8], at: usize, s: &[u16], starts: &[u16], sizes: &[u16], i: usize) -> usize
+fn put_body(out: &mut Writer, s: &[u16], starts: &[u16], sizes: &[u16], i: usize)
     requires held { Held s.now starts.now sizes.now i }
-    requires i_in_bounds { at + length (kept_bytes s.now starts.now sizes.now i) ≤ length out.old }
-    ensures { Put out.old at (kept_bytes s.now starts.now sizes.now i) out.new result }
+    requires room { HasRoom out.old (length (kept_bytes s.now starts.now sizes.now i)) }
+    ensures { Writes out.old out.new (kept_bytes s.now starts.now sizes.now i) }
 {
-    let from = wide::half(starts[i]);
-    let end = from + wide::half(sizes[i]);
-    put_literals(out, at, &s[from..end])
+    put_literals(out, ranks::kept(s, starts, sizes, i));
 }
 
-fn put_bodies(
-    out: &mut [u8],
-    at: usize,
-    s: &[u16],
-    starts: &[u16],
-    sizes: &[u16],
-    order: &[u16],
-) -> usize
+fn put_bodies(out: &mut Writer, s: &[u16], starts: &[u16], sizes: &[u16], order: &[u16])
     requires held_all { HeldAll s.now starts.now sizes.now order.now }
-    requires order_in_bounds { at + length (flat_map (kept_bytes s.now starts.now sizes.now) order.now) ≤ length out.old }
-    ensures { Put out.old at (flat_map (kept_bytes s.now starts.now sizes.now) order.now) out.new result }
+    requires room { HasRoom out.old (length (flat_map (kept_bytes s.now starts.now sizes.now) order.now)) }
+    ensures { Writes out.old out.new (flat_map (kept_bytes s.now starts.now sizes.now) order.now) }
 {
-    let mut to = at;
-    for k in 0..order.len() {
-        to = put_body(out, to, s, starts, sizes, wide::half(order[k]));
+    for &i in order {
+        put_body(out, s, starts, sizes, usize::from(i));
     }
-    to
 }
 
 // The job's questions, as they stand there.
-fn put_questions(out: &mut [u8], at: usize, job: &[u8]) -> usize
-    requires well_formed { WellFormed job.now }
-    requires job_in_bounds { at + length (flat_map question_bytes (job_of job.now).questions) ≤ length out.old }
-    ensures { Put out.old at (flat_map question_bytes (job_of job.now).questions) out.new result }
+fn put_questions(out: &mut Writer, job: &Job)
+    requires { HasRoom out.old (length (flat_map question_bytes (job_of job.now).questions)) }
+    ensures { Writes out.old out.new (flat_map question_bytes (job_of job.now).questions) }
 {
-    let from = 36 + 4 * format::rule_count(job) + 2 * format::literal_count(job);
-    put::put_bytes(out, at, &job[from..])
+    out.put_bytes(job.question_bytes());
 }
 
-// The form of a job whose bodies are sorted in s, and whose rules stand in order; its length.
+// The form of a job whose bodies are sorted in s, and whose rules stand in order.
 pub fn put_form(
-    job: &[u8],
+    job: &Job,
     s: &[u16],
     starts: &[u16],
     sizes: &[u16],
     order: &[u16],
-    out: &mut [u8],
-) -> usize
+    out: &mut Writer,
+)
     requires bodies { Bodies job.now s.now starts.now sizes.now × InOrder job.now order.now }
-    requires job_in_bounds { length (encode (form (job_of job.now))) ≤ length out.old }
-    ensures { Put out.old 0 (encode (form (job_of job.now))) out.new result }
+    requires room { HasRoom out.old (length (encode (form (job_of job.now)))) }
+    ensures { Writes out.old out.new (encode (form (job_of job.now))) }
 {
-    let a = put_counts(out, job, sizes, order);
-    let b = put_records(out, a, job, sizes, order);
-    let c = put_bodies(out, b, s, starts, sizes, order);
-    put_questions(out, c, job)
+    put_counts(out, job, sizes, order);
+    put_records(out, job, sizes, order);
+    put_bodies(out, s, starts, sizes, order);
+    put_questions(out, job);
 }

@@ -6,7 +6,7 @@
 
 use canon::canonical::canonical;
 use console::{faults, input};
-use job::{Check, checks};
+use job::{Refusal, checks};
 use std::io::{Stderr, Stdout};
 
 // One byte more than a job may have, so that a longer input shows.
@@ -21,24 +21,24 @@ fn say_number(err: Stderr, number: usize) {
     let _ = err.print(number);
 }
 
-// What check `number` found wrong, up to the place. 19 can't come, since the output has room for the largest job.
-fn say_fault(err: Stderr, number: u32, place: usize) {
-    if checks::MOST_BYTES < place {
+// What the check found wrong, up to the place. 19 can't come, since the output has room for the largest job.
+fn say_fault(err: Stderr, refusal: Refusal) {
+    if checks::MOST_BYTES < refusal.place {
         say(err, b"the input has over 61,476 bytes; bytes read: ");
         return;
     }
     let mut words = [0u8; faults::MOST_FAULT];
-    let n = faults::put_fault(&mut words, number);
+    let n = faults::put_fault(&mut words, refusal.number);
     say(err, &words[..n]);
 }
 
 // One line on standard error.
-fn say_refusal(err: Stderr, number: u32, place: usize) {
+fn say_refusal(err: Stderr, refusal: Refusal) {
     say(err, b"canonjob: refused by check ");
-    say_number(err, number as usize);
+    say_number(err, refusal.number as usize);
     say(err, b": ");
-    say_fault(err, number, place);
-    say_number(err, place);
+    say_fault(err, refusal);
+    say_number(err, refusal.place);
     say(err, b"\n");
 }
 
@@ -53,12 +53,9 @@ fn write_form(out: Stdout, err: Stderr, form: &[u8]) {
 }
 
 fn form(out: Stdout, err: Stderr, job: &[u8], form: &mut [u8]) {
-    let made = canonical(job, form);
-    let check = made.check;
-    let length = made.length;
-    match check {
-        Check::Accepted => write_form(out, err, &form[..length]),
-        Check::Refused { number, place } => say_refusal(err, number, place),
+    match canonical(job, form) {
+        Ok(length) => write_form(out, err, &form[..length]),
+        Err(refusal) => say_refusal(err, refusal),
     }
 }
 
@@ -67,14 +64,12 @@ fn main(rt: HostRuntime) {
     let mut stdin = rt.stdin();
     let mut job = [0u8; ROOM];
     let mut out = [0u8; checks::MOST_BYTES];
-    let read = input::read_input(&mut stdin, &mut job);
-    let length = read.length;
-    if !read.sound {
+    let Ok(length) = input::read_input(&mut stdin, &mut job) else {
         say(
             err,
             b"canonjob: standard input can't be read; give a job, as in `canonjob < my.job`\n",
         );
         return;
-    }
+    };
     form(rt.stdout(), err, &job[..length], &mut out);
 }

@@ -1,74 +1,95 @@
 -- Lines made of their numbers, the table of its lines. Assumes nothing.
---   put-before_is, put-line-is, put-table-is   a number and the byte behind it; five of them; three lines
---   counted_is, not_refused   the call's answer of a size from 1 to 3
+--   Short n a b s              s is written, and takes at most n bytes
+--   put-before_is              a number and the byte behind it
+--   line-room, put-line-is     five of them: room for each, and the line
+--   table-room, put-table-is   three lines: room for each, and the table
+--   counted_is, not_refused    the call's answer of a size from 1 to 3
 use Prim.Native.Nat.{ℕ, ◌+◌, ◌≤◌, ◌<◌}
 use mathlib.Core.Path.{◌≡◌, refl}
 use mathlib.Core.List.{List, [], ◌∷◌, ◌++◌}
 use native.Mathlib.Omega.{arith}
 use lib.ListN.{length}
 use Rattle.writing.specs.Decimal.{decimal}
-use Rattle.writing.specs.Written.{Put}
+use Rattle.writing.specs.Writes.{Writes, HasRoom}
+use Rattle.writing.specs.declared.writer.Writer.{Writer}
 use Rattle.writing.proofs.Decimal.{length-room}
+use Rattle.writing.proofs.Writing.{writes-room, writes-writes}
 use Rattle.listing.specs.Text.{blank, line_end}
-use Rattle.listing.proofs.Runs.{Run, run-start, run_more}
 use Rattle.rulesets.specs.Census.{census_of, census_answer}
 use Rattle.rulesets.specs.declared.Counts.{Counts}
-use Rattle.rulesets.specs.declared.CensusAnswer.{CensusAnswer}
-use Rattle.rulesets.specs.declared.CensusAnswer
+use Rattle.std.specs.Prelude.{Ok, Err}
+use Rattle.job.specs.declared.Refusal.{Refusal}
+use Rattle.rulesets.specs.CensusAnswer.{CensusAnswer}
 use Rattle.rulesets.proofs.Answering.{answer-counted}
 use Rattle.rulesets.specs.Lines.{before, census_line, handbook_table}
 
-ended : {buf s out : List ℕ} {at n r : ℕ} → Run buf at n s out r → Put buf at s out r × (r ≤ at + n)
-ended e = (e.put, omega (arith, e.put.next, e.few))
+abbrev pub Short : ℕ → Writer → Writer → List ℕ → Type 0
+Short n a b s = Writes a b s × (b.at ≤ a.at + n)
 
-pub put-before_is : {buf o₁ o₂ : List ℕ} {at r₁ r₂ : ℕ} (b n : ℕ) → at + 21 ≤ length buf → n < 18446744073709551616 → Put buf at (decimal n) o₁ r₁ → Put o₁ r₁ (b ∷ []) o₂ r₂ → Put buf at (before b n) o₂ r₂ × (r₂ ≤ at + 21)
+module _ (n k : ℕ) {a b : Writer} {s : List ℕ} where
+  few : Short n a b s → length s ≤ n
+  few p = omega (arith, p.0.put.next, p.1)
+
+  short-room : HasRoom a (n + k) → Short n a b s → HasRoom b k
+  short-room h p = let l = few p in writes-room a b s (omega (arith, h, l)) p.0 k (omega (arith, h, l))
+
+  short_more : HasRoom a n → Short n a b s → {c : Writer} {t : List ℕ} → Short k b c t → Short (n + k) a c (s ++ t)
+  short_more h p {c} {t} q = (writes-writes a b s (omega (arith, h, few p)) p.0 c t q.0, omega (arith, p.1, q.1))
+
+pub put-before_is : {w w₁ w₂ : Writer} (b n : ℕ) → HasRoom w 21 → n < 18446744073709551616 → Writes w w₁ (decimal n) → Writes w₁ w₂ (b ∷ []) → Short 21 w w₂ (before b n)
 unfolding before
-put-before_is {buf} {o₁} {o₂} {at} {r₁} {r₂} b n h l p q =
-    let a : Run buf at 20 (decimal n) o₁ r₁ = run-start 20 (length-room n l) p in
-    let e : Run buf at 21 (decimal n ++ (b ∷ [])) o₂ r₂ = run_more 1 (omega arith) (omega arith) a q in
-    ended e
+put-before_is {w} {w₁} {w₂} b n h l p q =
+    let r = length-room n l in
+    (writes-writes w w₁ (decimal n) (omega (arith, h, r)) p w₂ (b ∷ []) q, omega (arith, r, p.put.next, q.put.next))
 
-few_bytes : {buf s out : List ℕ} {at n r : ℕ} → Put buf at s out r → r ≤ at + n → length s ≤ n
-few_bytes p h = omega (arith, p.next)
+module _ (c : Counts) {w w₁ : Writer} (h : HasRoom w 105) (p₁ : Short 21 w w₁ (before blank c.trues)) where
+  pub line-room₂ : HasRoom w₁ 21
+  line-room₂ = short-room 21 21 (omega (arith, h)) p₁
 
--- a number and the byte behind it, written at `at`
-abbrev Behind : List ℕ → ℕ → ℕ → ℕ → List ℕ → ℕ → Type 0
-Behind buf at b n out r = Put buf at (before b n) out r × (r ≤ at + 21)
+  module _ {w₂ : Writer} (p₂ : Short 21 w₁ w₂ (before blank c.falses)) where
+    two : Short 42 w w₂ (before blank c.trues ++ before blank c.falses)
+    two = short_more 21 21 (omega (arith, h)) p₁ p₂
 
-pub put-line-is :
-    {buf o₁ o₂ o₃ o₄ o₅ : List ℕ} {at r₁ r₂ r₃ r₄ r₅ : ℕ} (c : Counts) → at + 105 ≤ length buf → Behind buf at blank c.trues o₁ r₁ → Behind o₁ r₁ blank c.falses o₂ r₂
-    → Behind o₂ r₂ blank c.undefineds o₃ r₃ → Behind o₃ r₃ blank c.place o₄ r₄ → Behind o₄ r₄ line_end c.turns o₅ r₅ → Put buf at (census_line c) o₅ r₅ × (r₅ ≤ at + 105)
-unfolding census_line
-put-line-is {buf} {o₁} {o₂} {o₃} {o₄} {o₅} {at} {r₁} {r₂} {r₃} {r₄} {r₅} c h p₁ p₂ p₃ p₄ p₅ =
-    let t = before blank c.trues in
-    let f = before blank c.falses in
-    let u = before blank c.undefineds in
-    let p = before blank c.place in
-    let n = before line_end c.turns in
-    let a₁ : Run buf at 21 t o₁ r₁ = run-start 21 (few_bytes p₁.0 p₁.1) p₁.0 in
-    let a₂ : Run buf at 42 (t ++ f) o₂ r₂ = run_more 21 (omega arith) (few_bytes p₂.0 p₂.1) a₁ p₂.0 in
-    let a₃ : Run buf at 63 (t ++ f ++ u) o₃ r₃ = run_more 21 (omega arith) (few_bytes p₃.0 p₃.1) a₂ p₃.0 in
-    let a₄ : Run buf at 84 (t ++ f ++ u ++ p) o₄ r₄ = run_more 21 (omega arith) (few_bytes p₄.0 p₄.1) a₃ p₄.0 in
-    let a₅ : Run buf at 105 (t ++ f ++ u ++ p ++ n) o₅ r₅ = run_more 21 (omega arith) (few_bytes p₅.0 p₅.1) a₄ p₅.0 in
-    ended a₅
+    pub line-room₃ : HasRoom w₂ 21
+    line-room₃ = short-room 42 21 (omega (arith, h)) two
 
-pub put-table-is :
-    {buf o₁ o₂ o₃ : List ℕ} {r₁ r₂ r₃ : ℕ} → 315 ≤ length buf → Put buf 0 (census_line (census_of 1)) o₁ r₁ × (r₁ ≤ 0 + 105) → Put o₁ r₁ (census_line (census_of 2)) o₂ r₂ × (r₂ ≤ r₁ + 105)
-    → Put o₂ r₂ (census_line (census_of 3)) o₃ r₃ × (r₃ ≤ r₂ + 105) → Put buf 0 handbook_table o₃ r₃ × (r₃ ≤ 315)
-unfolding handbook_table
-put-table-is {buf} {o₁} {o₂} {o₃} {r₁} {r₂} {r₃} h p q s =
-    let x = census_line (census_of 1) in
-    let y = census_line (census_of 2) in
-    let z = census_line (census_of 3) in
-    let a : Run buf 0 105 x o₁ r₁ = run-start 105 (few_bytes p.0 p.1) p.0 in
-    let b : Run buf 0 210 (x ++ y) o₂ r₂ = run_more 105 (omega arith) (few_bytes q.0 q.1) a q.0 in
-    let c : Run buf 0 315 (x ++ y ++ z) o₃ r₃ = run_more 105 (omega arith) (few_bytes s.0 s.1) b s.0 in
-    ended c
+    module _ {w₃ : Writer} (p₃ : Short 21 w₂ w₃ (before blank c.undefineds)) where
+      three : Short 63 w w₃ (before blank c.trues ++ before blank c.falses ++ before blank c.undefineds)
+      three = short_more 42 21 (omega (arith, h)) two p₃
+
+      pub line-room₄ : HasRoom w₃ 21
+      line-room₄ = short-room 63 21 (omega (arith, h)) three
+
+      module _ {w₄ : Writer} (p₄ : Short 21 w₃ w₄ (before blank c.place)) where
+        four : Short 84 w w₄ (before blank c.trues ++ before blank c.falses ++ before blank c.undefineds ++ before blank c.place)
+        four = short_more 63 21 (omega (arith, h)) three p₄
+
+        pub line-room₅ : HasRoom w₄ 21
+        line-room₅ = short-room 84 21 (omega (arith, h)) four
+
+        pub put-line-is : {w₅ : Writer} → Short 21 w₄ w₅ (before line_end c.turns) → Short 105 w w₅ (census_line c)
+        unfolding census_line
+        put-line-is p₅ = short_more 84 21 (omega (arith, h)) four p₅
+
+module _ {w w₁ : Writer} (h : HasRoom w 315) (p₁ : Short 105 w w₁ (census_line (census_of 1))) where
+  pub table-room₂ : HasRoom w₁ 105
+  table-room₂ = short-room 105 105 (omega (arith, h)) p₁
+
+  module _ {w₂ : Writer} (p₂ : Short 105 w₁ w₂ (census_line (census_of 2))) where
+    lines : Short 210 w w₂ (census_line (census_of 1) ++ census_line (census_of 2))
+    lines = short_more 105 105 (omega (arith, h)) p₁ p₂
+
+    pub table-room₃ : HasRoom w₂ 105
+    table-room₃ = short-room 210 105 (omega (arith, h)) lines
+
+    pub put-table-is : {w₃ : Writer} → Short 105 w₂ w₃ (census_line (census_of 3)) → Short 315 w w₃ handbook_table
+    unfolding handbook_table
+    put-table-is p₃ = short_more 210 105 (omega (arith, h)) lines p₃
 
 -- the call's answer of a size from 1 to 3
 module _ (n : ℕ) (some : 1 ≤ n) (few : n ≤ 3) where
-  pub counted_is : {a : CensusAnswer} {c : Counts} → a ≡ census_answer n → a ≡ CensusAnswer.TheVariants.Counted c → c ≡ census_of n
+  pub counted_is : {a : CensusAnswer} {c : Counts} → a ≡ census_answer n → a ≡ Ok c → c ≡ census_of n
   counted_is e q = let k = answer-counted n some few refl in cc
 
-  pub not_refused : {a : CensusAnswer} {number place : ℕ} → a ≡ census_answer n → a ≡ CensusAnswer.TheVariants.Refused number place → ⊥
+  pub not_refused : {a : CensusAnswer} {e : Refusal} → a ≡ census_answer n → a ≡ Err e → ⊥
   not_refused e q = let k = answer-counted n some few refl in let z : ◌≡◌ {A = ℕ} 0 1 = cc in omega arith

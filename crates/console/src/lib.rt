@@ -2,5 +2,6 @@
 #![tactic(auto)]
 
 pub mod faults;
+mod front;
 pub mod input;
 pub mod kinds;

@@ -1,6 +1,6 @@
 -- The start of a D (specs/Counters: Begun): the heads of rules that count nothing join. Assumes nothing.
 --   fits-empty                             an empty queue fits any set
---   Facting, facting-start, -more, _done   the heads of the rules below n that count nothing are in w
+--   Facting, facting-start, -more   the heads of the rules below n that count nothing are in w
 use Prim.Native.Nat.{ℕ, ◌+◌, ◌*◌, ◌<◌, ◌≤◌}
 use mathlib.Core.Path.{◌≡◌, refl, sym, ◌∙◌, ap, subst}
 use mathlib.Core.Bool.{Bool, true, false, true≢false}
@@ -16,7 +16,7 @@ use Rattle.base.proofs.Bools.{is-not}
 use Rattle.job.specs.Accepted.{WellFormed}
 use Rattle.job.specs.Format.{claims, rules, head_at}
 use Rattle.counters.specs.Queues.{seen, Joined, JoinedIf, Joins, none, more, Fits}
-use Rattle.counters.specs.Counters.{Ready, Idle, Begun}
+use Rattle.counters.specs.Counters.{Ready, Idle}
 use Rattle.counters.proofs.Queues.{seen_none}
 use Rattle.counters.proofs.Joining.{fits-joined, joined-grown, joined-there}
 
@@ -77,6 +77,3 @@ facting-more s cnt w₀ q₀ w q t r now good l w' q' t' j = go (eqb (get_or cnt
     go false e =
         let m = j.not e in
         rw (m.0, m.1, m.2) (facting-no s cnt w₀ q₀ w q t r now (λ z. true≢false (sym (eq-eqb (get_or cnt r 0) 0 z) ∙ e)))
-
-pub facting_done : {s cnt w₀ q₀ w q : List ℕ} {t n : ℕ} → n ≡ rules s → Facting s cnt w₀ q₀ w q t n → Begun s cnt w₀ q₀ w q t
-facting_done {s} {cnt} {w₀} {q₀} {w} e now = record { joins = now.joins; ready = subst (Ready s cnt w) e now.ready }

@@ -3,9 +3,9 @@
 --   doubted_key     the key at a place is twice its half
 --   doubted-small   the claim at a place is one of the claims
 --   doubted-again   it is not on the list before
---   listed_more     one more claim onto the list of all claims
+--   Read, doubted-read   the key at a place, as it is read of a part of the list
 --   doubted_all, listed_all   the list of all claims
-use Prim.Native.Nat.{ℕ, ◌+◌, ◌*◌, ◌/◌, ◌<◌, ◌≤◌}
+use Prim.Native.Nat.{ℕ, ◌+◌, ◌-◌, ◌*◌, ◌/◌, ◌<◌, ◌≤◌}
 use mathlib.Core.Path.{◌≡◌, ◌∙◌, subst}
 use mathlib.Core.Bool.{false}
 use mathlib.Core.List.{List}
@@ -13,11 +13,12 @@ use mathlib.Core.Logic.{by_cases}
 use native.Mathlib.Omega.{arith}
 use native.Mathlib.Decide.{ℕ_discrete, dec_lt}
 use lib.Dec.{T}
-use lib.ListN.{length, get_or, set}
+use lib.ListN.{length, get_or, set, take, drop}
 use lib.Seq.{get_or-set_same, get_or-set_other}
 use Rattle.base.proofs.Bools.{is-not}
 use Rattle.counters.specs.Queues.{seen}
 use Rattle.counters.specs.Doubts.{Doubted}
+use Rattle.counters.proofs.Walking.{place-read}
 use Rattle.counters.proofs.Queues.{seen_none, seen_at, seen-place, seen-not}
 
 module _ {A : ℕ} {l : List ℕ} {from end : ℕ} (now : Doubted A l from end) where
@@ -37,6 +38,20 @@ module _ {A : ℕ} {l : List ℕ} {from end : ℕ} (now : Doubted A l from end) 
 
     pub doubted-again : (c : ℕ) → get_or l i 0 ≡ 2 * c → seen l i (2 * c) ≡ false
     doubted-again c e = subst (λ (k : ℕ). seen l i k ≡ false) e (now.queue.fresh i b)
+
+-- a key of the doubted claims, as a loop over their part of the list reads it
+pub record Read (A : ℕ) (l : List ℕ) (i key : ℕ) : Type 0 where
+  pub is : get_or l i 0 ≡ 2 * (key / 2)
+  pub even : key ≡ 2 * (key / 2)
+  pub small : key / 2 < A
+
+pub doubted-read :
+    {A : ℕ} {l : List ℕ} {from end : ℕ} → Doubted A l from end → (i key : ℕ) → i < end - from
+    → key ≡ get_or (take (end - from) (drop from l)) i 0 → Read A l (from + i) key
+doubted-read {A} {l} {from} {end} now i key m e =
+    let k : key ≡ get_or l (from + i) 0 = place-read l from end i key m e in
+    let is : get_or l (from + i) 0 ≡ 2 * (key / 2) = doubted_key now (from + i) (omega arith) (omega arith) (key / 2) (omega arith) in
+    record { is = is; even = k ∙ is; small = doubted-small now (from + i) (omega arith) (omega arith) (key / 2) is }
 
 -- the list of all claims
 pub listed_more :

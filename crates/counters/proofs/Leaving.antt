@@ -1,6 +1,5 @@
 -- Claims that leave a set for a list (specs/Doubts: stays, Left, Owed, Fallen). Assumes nothing.
---   stays-outside, -inside, -no   a claim that stays, and one that doesn't
---   left-stays, -goes             what `leave` does; owed-stands, -leaves   and `owe`
+--   stays-no, stays_in    a claim that doesn't stay, and one that does
 --   by_left                       what holds of both ways holds of what is left
 --   left-fewer, _out, _old, _up, -fallen   what a claim that leaves leaves
 --   fallen-refl, _trans           nothing left, and one after the other
@@ -12,31 +11,18 @@ use mathlib.Core.List.{List}
 use mathlib.Core.Logic.{⊎_elim, by_cases}
 use native.Mathlib.Omega.{arith}
 use native.Mathlib.Decide.{ℕ_discrete, dec_lt}
-use borrow.Author.Tests.{ne_eqb, eq-eqb, not-false}
-use lib.Dec.{T, eqb}
+use borrow.Author.Tests.{not-false}
+use lib.Dec.{T}
 use lib.ListN.{length, get_or, set}
 use lib.Seq.{get_or-set_same, get_or-set_other}
 use Rattle.base.specs.Sets.{◌⊆◌, set_of}
 use Rattle.base.proofs.Bools.{is, is_true, neither, or_left, or_cases}
 use Rattle.base.proofs.ByteSets.{set_gone, set_same}
-use Rattle.job.specs.Format.{head_at}
 use Rattle.counters.specs.Queues.{seen}
-use Rattle.counters.specs.Doubts.{stays, Left, Owed, Fallen}
+use Rattle.counters.specs.Doubts.{stays, Left, Fallen}
 use Rattle.counters.proofs.Queues.{seen-later, seen_other, seen-this, seen_same}
 
 module _ (k u : List ℕ) (c : ℕ) where
-  pub stays-outside : get_or u c 0 ≡ 0 → stays k u c ≡ true
-  unfolding stays set_of
-  stays-outside e = rw (eq-eqb (get_or u c 0) 0 e)
-
-  pub stays-inside : (get_or k c 0 ≡ 0 → ⊥) → stays k u c ≡ true
-  unfolding stays set_of
-  stays-inside n = rw (ne_eqb (get_or k c 0) 0 n) (or-true (not (not (eqb (get_or u c 0) 0))))
-
-  pub stays-not : (get_or u c 0 ≡ 0 → ⊥) → get_or k c 0 ≡ 0 → stays k u c ≡ false
-  unfolding stays set_of
-  stays-not n e = rw (ne_eqb (get_or u c 0) 0 n, eq-eqb (get_or k c 0) 0 e)
-
   pub stays-no : stays k u c ≡ false → (set_of u c ≡ true) × (set_of k c ≡ false)
   unfolding stays
   stays-no e = let n = neither (not (set_of u c)) (set_of k c) e in (not-false (set_of u c) n.0, n.1)
@@ -49,13 +35,6 @@ module _ (k u : List ℕ) (c : ℕ) where
       go : (a b : Bool) → (not a || b) ≡ true → T a → T b
       go true b x y = is b x
       go false b x y = absurd y
-
-  module _ (q : List ℕ) (t : ℕ) where
-    pub left-stays : stays k u c ≡ true → Left k c u q t u q t
-    left-stays e = record { claims_are = rw e; queue_is = rw e; top_is = rw e }
-
-    pub left-goes : stays k u c ≡ false → Left k c u q t (set u c 0) (set q t (2 * c)) (t + 1)
-    left-goes e = record { claims_are = rw e; queue_is = rw e; top_is = rw e }
 
 pub fallen-refl : (u q : List ℕ) (t : ℕ) → Fallen u q t u q t
 fallen-refl u q t =
@@ -132,14 +111,3 @@ module _ {k u q : List ℕ} {t c : ℕ} {u' q' : List ℕ} {t' : ℕ} (j : Left 
 
       pub left-fallen : Fallen u q t u' q' t'
       left-fallen = by_left (λ x y z. Fallen u q t x y z) (λ e. fallen-refl u q t) gone
-
--- rule r counts one more
-module _ (s k cnt u q : List ℕ) (r t : ℕ) where
-  pub owed-stands : (get_or cnt r 0 ≡ 0 → ⊥) → Owed s k cnt u q r t (set cnt r (get_or cnt r 0 + 1)) u q t
-  owed-stands d = record { raised = refl; stands = λ y. (refl, refl, refl); leaves = λ x. absurd (d x) }
-
-  pub owed-leaves :
-      (h : ℕ) (u' q' : List ℕ) (t' : ℕ) → get_or cnt r 0 ≡ 0 → h ≡ head_at s r → Left k h u q t u' q' t'
-      → Owed s k cnt u q r t (set cnt r (get_or cnt r 0 + 1)) u' q' t'
-  owed-leaves h u' q' t' z i j =
-      record { raised = refl; stands = λ d. absurd (d z); leaves = λ y. subst (λ (x : ℕ). Left k x u q t u' q' t') i j }

@@ -10,7 +10,6 @@ pub mod Preparing
 pub mod Walking
 pub mod Counting
 pub mod Queues
-pub mod Stores
 pub mod Joining
 pub mod Beginning
 pub mod Positions

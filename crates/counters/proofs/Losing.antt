@@ -32,9 +32,10 @@ pub record Losing (u l : List ℕ) (i : ℕ) (q₀ : List ℕ) (t₀ : ℕ) (q :
   pub negated : (c : ℕ) → seen q t (2 * c + 1) ≡ (seen l i (2 * c) && not (set_of u c))
 
 pub losing-start :
-    (u : List ℕ) {l q : List ℕ} {from end t : ℕ} → Doubted (length u) l from end → Queue (2 * length u) q t
-    → ((c : ℕ) → seen q t (2 * c + 1) ≡ false) → Losing u l from q t q t
-losing-start u doubted queue f =
+    (u : List ℕ) {l q : List ℕ} {from end i t : ℕ} → i ≡ from → Doubted (length u) l from end → Queue (2 * length u) q t
+    → ((c : ℕ) → seen q t (2 * c + 1) ≡ false) → Losing u l i q t q t
+losing-start u e doubted queue f =
+    rw e
     record {
       queue = queue;
       size = refl;
@@ -44,9 +45,8 @@ losing-start u doubted queue f =
     }
 
 pub losing-is :
-    {u l q₀ q q' : List ℕ} {i t₀ t t' : ℕ} → q' ≡ q → t' ≡ t → Losing u l i q₀ t₀ q t → Losing u l i q₀ t₀ q' t'
-losing-is {u} {l} {q₀} {q} {q'} {i} {t₀} {t} {t'} e f now =
-    subst⁻¹ (λ (y : List ℕ). Losing u l i q₀ t₀ y t') e (subst⁻¹ (Losing u l i q₀ t₀ q) f now)
+    {u l q₀ q q' : List ℕ} {i i' t₀ t t' : ℕ} → i' ≡ i → q' ≡ q → t' ≡ t → Losing u l i q₀ t₀ q t → Losing u l i' q₀ t₀ q' t'
+losing-is d e f now = rw (d, e, f) now
 
 pub losing_done : {u l q₀ q : List ℕ} {i end t₀ t : ℕ} → Losing u l i q₀ t₀ q t → i ≡ end → Lost u l end q₀ t₀ q t
 losing_done {u} {l} now e =

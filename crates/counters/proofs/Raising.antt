@@ -2,7 +2,7 @@
 --   carried_on                    every aim goes on
 --   raised-start, -trans          nothing done, and one after the other
 --   raised-skip, -step, -next     a key's positions: past those of others, one done, and on to the next key
---   raised-some, -room            what a step asks for; raised_all   all keys are taken
+--   raised-some, -room            what a step asks for
 --   Taking, Takes, taking-..      the places of one key, as `hold` walks them
 use Prim.Native.Nat.{ℕ, ◌+◌, ◌-◌, ◌<◌, ◌≤◌}
 use mathlib.Core.Path.{◌≡◌, refl, sym, ◌∙◌, ap, subst, subst⁻¹}
@@ -147,14 +147,6 @@ module _ (s own cnt₀ w₀ q₀ : List ℕ) (i₀ t₀ : ℕ) where
           ))
           (λ d. let m = done.waits d in rw (m.0, m.1, m.2) (waits d, inside, refl)))
 
--- all keys are taken
-pub raised_all :
-    {s own cnt₀ w₀ q₀ : List ℕ} {i₀ t₀ : ℕ} {cnt w q : List ℕ} {i x t : ℕ} → i ≤ t → t ≤ i → Raised s own cnt₀ w₀ q₀ i₀ t₀ cnt w q i x t
-    → Raised s own cnt₀ w₀ q₀ i₀ t₀ cnt w q t x t
-raised_all {s} {own} {cnt₀} {w₀} {q₀} {i₀} {t₀} {cnt} {w} {q} {i} {x} {t} a b now =
-    let e : i ≡ t = omega arith in
-    subst (λ (y : ℕ). Raised s own cnt₀ w₀ q₀ i₀ t₀ cnt w q y x t) e now
-
 -- the places of the key at i of the queue, walked
 abbrev pub Taking : (s cnt₀ w₀ q₀ : List ℕ) (i t₀ : ℕ) (cnt w q : List ℕ) (t key j : ℕ) → Type 0
 Taking s cnt₀ w₀ q₀ i t₀ cnt w q t key j = Walk (λ x. Raised s (owners s) cnt₀ w₀ q₀ i t₀ cnt w q i x t) s q i t key j
@@ -165,7 +157,8 @@ pub record Takes (s cnt₀ w₀ q₀ : List ℕ) (i t₀ : ℕ) (cnt w q : List 
   pub some : 1 ≤ get_or cnt r 0
   pub room : set_of w (head_at s r) ≡ false → t < length q
   pub step :
-      (cnt' w' q' : List ℕ) (t' : ℕ) → Paid s cnt w q r t cnt' w' q' t' → Taking s cnt₀ w₀ q₀ i t₀ cnt' w' q' t' key (j + 1)
+      (cnt' w' q' : List ℕ) (t' : ℕ) → Paid s cnt w q r t cnt' w' q' t' → (k : ℕ) → k ≡ j + 1
+      → Taking s cnt₀ w₀ q₀ i t₀ cnt' w' q' t' key k
 
 module _ (s start occ cnt₀ w₀ q₀ : List ℕ) (i t₀ : ℕ) (good : WellFormed s) (placed : Placed s start occ) where
   pub taking-start :
@@ -191,10 +184,10 @@ module _ (s start occ cnt₀ w₀ q₀ : List ℕ) (i t₀ : ℕ) (good : WellFo
           room =
               subst⁻¹ (λ (y : ℕ). set_of w (head_at s y) ≡ false → t < length q) n.rule
               (raised-room s (owners s) cnt₀ w₀ q₀ i t₀ cnt w q i t n.p good own n.state now.inside n.inside n.here);
-          step = λ cnt' w' q' t' paid.
+          step = λ cnt' w' q' t' paid k e.
               let m =
               raised-step s (owners s) cnt₀ w₀ q₀ i t₀ cnt w q i t n.p good own n.state now.inside n.inside n.here cnt' w' q' t'
               (subst (λ (y : ℕ). Paid s cnt w q y t cnt' w' q' t') n.rule paid)
               in
-              walk-on now n m.0 m.1 m.2;
+              walk-on now n m.0 m.1 m.2 k e;
         }

@@ -32,8 +32,8 @@ pub record Recovering (s fail l : List ℕ) (from i : ℕ) (u₀ q₀ u q : List
   pub found : (j : ℕ) → from ≤ j → j < i → (c : ℕ) → get_or l j 0 ≡ 2 * c → Idle s fail c → T (set_of u c)
 
 pub recovering-start :
-    (s fail l : List ℕ) (from : ℕ) (u q : List ℕ) → length u ≡ claims s → keys s ≤ length q → Recovering s fail l from from u q u q 0
-recovering-start s fail l from u q e h =
+    (s fail l : List ℕ) (from i : ℕ) (u q : List ℕ) → i ≡ from → length u ≡ claims s → keys s ≤ length q → Recovering s fail l from i u q u q 0
+recovering-start s fail l from i u q f e h =
     record {
       joins = none;
       fits = record {
@@ -46,11 +46,9 @@ recovering-start s fail l from u q e h =
     }
 
 pub recovering-is :
-    {s fail l u₀ q₀ u q u' q' : List ℕ} {from i t t' : ℕ} → u' ≡ u → q' ≡ q → t' ≡ t → Recovering s fail l from i u₀ q₀ u q t
-    → Recovering s fail l from i u₀ q₀ u' q' t'
-recovering-is {s} {fail} {l} {u₀} {q₀} {u} {q} {u'} {q'} {from} {i} {t} {t'} e f g now =
-    subst⁻¹ (λ (y : List ℕ). Recovering s fail l from i u₀ q₀ y q' t') e
-    (subst⁻¹ (λ (y : List ℕ). Recovering s fail l from i u₀ q₀ u y t') f (subst⁻¹ (Recovering s fail l from i u₀ q₀ u q) g now))
+    {s fail l u₀ q₀ u q u' q' : List ℕ} {from i i' t t' : ℕ} → i' ≡ i → u' ≡ u → q' ≡ q → t' ≡ t → Recovering s fail l from i u₀ q₀ u q t
+    → Recovering s fail l from i' u₀ q₀ u' q' t'
+recovering-is d e f g now = rw (d, e, f, g) now
 
 module _ {s fail l : List ℕ} {from i : ℕ} {u₀ q₀ u q : List ℕ} {t : ℕ} (now : Recovering s fail l from i u₀ q₀ u q t) where
   pub recovering-room : (c : ℕ) → c < claims s → set_of u c ≡ false → t < length q

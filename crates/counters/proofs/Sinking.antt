@@ -1,7 +1,7 @@
 -- A U that shrinks (specs/Doubts: Kept, Sunk). Assumes nothing.
 --   sunk-start, -trans          nothing done, and one after the other
 --   sunk-skip, -step, -next     a key's positions: past those of others, one that fails, and on to the next key
---   sunk_most, -room, -top      what a step asks for; sunk_end   all keys are done
+--   sunk_most, -room, -top      what a step asks for
 --   sunk-fewer                  the set has no more claims than before
 --   Failing, Fails, failing-..  the places of one key, as `fall` walks them
 use Prim.Native.Nat.{ℕ, ◌+◌, ◌<◌, ◌≤◌}
@@ -39,9 +39,6 @@ module _ (s k own cnt₀ u₀ q₀ : List ℕ) (t₀ : ℕ) where
 
     pub sunk-top : Sunk s k own cnt₀ u₀ q₀ t₀ cnt u q i x t → t ≤ keys s
     sunk-top now = queue-top now.falling.queue
-
-    pub sunk_end : i ≤ t → t ≤ i → Sunk s k own cnt₀ u₀ q₀ t₀ cnt u q i x t → Sunk s k own cnt₀ u₀ q₀ t₀ cnt u q t x t
-    sunk_end l m = let e : i ≡ t = omega arith in subst (λ (j : ℕ). Sunk s k own cnt₀ u₀ q₀ t₀ cnt u q j x t) e
 
   module _ (cnt u q : List ℕ) (i t : ℕ) where
     -- other positions that are pending, but for none of the job's
@@ -158,7 +155,8 @@ pub record Fails (s k cnt₀ u₀ q₀ : List ℕ) (i t₀ : ℕ) (cnt u q : Lis
   pub few : get_or cnt r 0 < 65535
   pub room : stays k u (head_at s r) ≡ false → t < length q
   pub step :
-      (cnt' u' q' : List ℕ) (t' : ℕ) → Owed s k cnt u q r t cnt' u' q' t' → Failing s k cnt₀ u₀ q₀ i t₀ cnt' u' q' t' key (j + 1)
+      (cnt' u' q' : List ℕ) (t' : ℕ) → Owed s k cnt u q r t cnt' u' q' t' → (n : ℕ) → n ≡ j + 1
+      → Failing s k cnt₀ u₀ q₀ i t₀ cnt' u' q' t' key n
 
 module _ (s k start occ cnt₀ u₀ q₀ : List ℕ) (i t₀ : ℕ) (good : WellFormed s) (placed : Placed s start occ) where
   pub failing-start :
@@ -184,10 +182,10 @@ module _ (s k start occ cnt₀ u₀ q₀ : List ℕ) (i t₀ : ℕ) (good : Well
           room =
               subst⁻¹ (λ (y : ℕ). stays k u (head_at s y) ≡ false → t < length q) n.rule
               (sunk-room s k (owners s) cnt₀ u₀ q₀ t₀ cnt u q i t n.p good own n.state now.inside n.inside n.here);
-          step = λ cnt' u' q' t' owed.
+          step = λ cnt' u' q' t' owed h e.
               let m =
               sunk-step s k (owners s) cnt₀ u₀ q₀ t₀ cnt u q i t n.p good own n.state now.inside n.inside n.here cnt' u' q' t'
               (subst (λ (y : ℕ). Owed s k cnt u q y t cnt' u' q' t') n.rule owed)
               in
-              walk-on now n m.0 m.1 m.2;
+              walk-on now n m.0 m.1 m.2 h e;
         }

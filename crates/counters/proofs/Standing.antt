@@ -2,16 +2,13 @@
 -- together. Assumes nothing.
 --   Busy          no rule of claim c from r on counts nothing, and the heads below r are no later than c
 --   busy-start    one more than the last rule of c
---   busy_more     the rule before r counts something
 --   busy-other    the rule before r is of another claim: c has no rule that counts nothing
---   idle_here     the rule before r is of c and counts nothing
---   busy_done     no rule is left
 use Prim.Native.Nat.{ℕ, ◌-◌, ◌<◌, ◌≤◌}
-use mathlib.Core.Path.{◌≡◌, subst}
+use mathlib.Core.Path.{◌≡◌}
 use mathlib.Core.List.{List}
 use mathlib.Core.Logic.{by_cases}
 use native.Mathlib.Omega.{arith}
-use native.Mathlib.Decide.{ℕ_discrete, dec_lt}
+use native.Mathlib.Decide.{dec_lt}
 use lib.ListN.{get_or}
 use Rattle.job.specs.Accepted.{WellFormed}
 use Rattle.job.specs.Format.{rules, head_at}
@@ -41,16 +38,6 @@ module _ {s : List ℕ} (good : WellFormed s) {c : ℕ} where
 
   -- the rule before r
   module _ {cnt : List ℕ} {r : ℕ} (now : Busy s cnt c r) (l : 0 < r) where
-    pub busy_more : (get_or cnt (r - 1) 0 ≡ 0 → ⊥) → Busy s cnt c (r - 1)
-    busy_more n =
-        record {
-          within = omega (arith, now.within);
-          busy = λ p m k e z.
-              by_cases (ℕ_discrete p (r - 1)) (λ i. n (subst (λ (x : ℕ). get_or cnt x 0 ≡ 0) i z))
-              (λ d. now.busy p (omega arith) k e z);
-          low = λ p m. now.low p (omega arith);
-        }
-
     pub busy-other : (head_at s (r - 1) ≡ c → ⊥) → Idle s cnt c → ⊥
     busy-other n idle =
         by_cases (dec_lt idle.by r)
@@ -59,10 +46,3 @@ module _ {s : List ℕ} (good : WellFormed s) {c : ℕ} where
         rises s (rules s) good.rise idle.by (r - 1) (omega arith) (omega (arith, now.within)) in
         n (omega (arith, idle.head, now.low (r - 1) (omega arith))))
         (λ m. now.busy idle.by (omega arith) idle.below idle.head idle.none)
-
-    pub idle_here : head_at s (r - 1) ≡ c → get_or cnt (r - 1) 0 ≡ 0 → Idle s cnt c
-    idle_here e z = record { by = r - 1; below = omega (arith, now.within); none = z; head = e }
-
--- no rule is left
-pub busy_done : {s cnt : List ℕ} {c r : ℕ} → Busy s cnt c r → r ≡ 0 → Idle s cnt c → ⊥
-busy_done now e idle = now.busy idle.by (omega arith) idle.below idle.head idle.none

@@ -4,16 +4,19 @@
 --   Walk R s q i t key j  the key at place i of a queue, walked up to its place j: of its positions those from x on are done, by which R x holds
 --   Skips R s q i         positions that don't have the key make no difference to R
 --   Next R s q i key j r  the position at place j, of rule r, next to be done
---   walk_start, _most, _end, -next, -on
-use Prim.Native.Nat.{ℕ, ◌+◌, ◌<◌, ◌≤◌}
-use mathlib.Core.Path.{◌≡◌, sym, ◌∙◌, subst⁻¹}
+--   place-read            a place of a part of a list
+--   Places, places        where a key's places are; Owners, owners_at   the rules there
+--   walk_start, _end, -next, -on
+use Prim.Native.Nat.{ℕ, ◌+◌, ◌-◌, ◌<◌, ◌≤◌}
+use mathlib.Core.Path.{◌≡◌, sym, ◌∙◌, ap, subst⁻¹}
 use mathlib.Core.List.{List}
 use native.Mathlib.Omega.{arith}
-use lib.ListN.{get_or}
+use lib.ListN.{length, get_or, take, drop, length-take, length-drop}
+use Rattle.std.proofs.lemmas.List.{get_or-take, get_or-drop}
 use Rattle.job.specs.Accepted.{WellFormed}
 use Rattle.job.specs.Format.{rules, literals}
-use Rattle.counters.specs.Positions.{key_at, tally, start_of, owners, Placed}
-use Rattle.counters.proofs.Occurring.{occ_first, occ-next, occ_done, start_most}
+use Rattle.counters.specs.Positions.{key_at, keys, tally, start_of, owners, Placed}
+use Rattle.counters.proofs.Occurring.{occ_first, occ-next, occ_done, start_mono, start_most}
 use Rattle.counters.proofs.Owning.{owners-owned}
 
 pub record Found (s occ : List ℕ) (key x j : ℕ) : Type 0 where
@@ -43,6 +46,46 @@ found s start occ key x j good placed l e more =
       left = m.5;
     }
 
+-- a part of a list, read at one of its places
+pub place-read :
+    (occ : List ℕ) (from end i r : ℕ) → i < end - from → r ≡ get_or (take (end - from) (drop from occ)) i 0 → r ≡ get_or occ (from + i) 0
+place-read occ from end i r l e = e ∙ get_or-take (end - from) (drop from occ) i 0 l ∙ get_or-drop from occ i 0
+
+-- the places of a key, and the rules that stand there
+pub record Places (start occ : List ℕ) (key : ℕ) : Type 0 where
+  pub rising : get_or start key 0 ≤ get_or start (key + 1) 0
+  pub within : get_or start (key + 1) 0 ≤ length occ
+
+pub record Owners (s occ here : List ℕ) (key : ℕ) : Type 0 where
+  pub ends : start_of s key + length here ≡ start_of s (key + 1)
+  pub read : (i r : ℕ) → i < length here → r ≡ get_or here i 0 → r ≡ get_or occ (start_of s key + i) 0
+
+module _ (s start occ : List ℕ) (placed : Placed s start occ) (key : ℕ) (small : key < keys s) where
+  first : get_or start key 0 ≡ start_of s key
+  first = placed.starts key (omega arith)
+
+  past : get_or start (key + 1) 0 ≡ start_of s (key + 1)
+  past = placed.starts (key + 1) (omega arith)
+
+  pub places : Places start occ key
+  places =
+      record {
+        rising = omega (arith, first, past, start_mono s key (key + 1) (omega arith));
+        within = omega (arith, past, start_most s (key + 1), placed.occ_long);
+      }
+
+  pub owners_at :
+      (here : List ℕ) → here ≡ take (get_or start (key + 1) 0 - get_or start key 0) (drop (get_or start key 0) occ) → Owners s occ here key
+  owners_at here e =
+      let from = get_or start key 0 in
+      let n = get_or start (key + 1) 0 - from in
+      let long : length here ≡ n = rw e (omega (arith, length-take n (drop from occ), length-drop from occ, places)) in
+      record {
+        ends = omega (arith, first, past, places);
+        read = λ i r l f.
+            rw (← first) (place-read occ from (get_or start (key + 1) 0) i r (omega arith) (f ∙ ap (λ (x : List ℕ). get_or x i 0) e));
+      }
+
 pub record Walk (R : ℕ → Type 0) (s q : List ℕ) (i t key j : ℕ) : Type 0 where
   pub x : ℕ
   pub state : R x
@@ -69,9 +112,6 @@ walk_start {R} {s} {q} {i} {t} {key} {j} a l e f =
     record { x = literals s; state = a; inside = l; low = omega arith; is = sym e; left = omega (arith, f, occ_first s key) }
 
 module _ {R : ℕ → Type 0} {s q : List ℕ} {i t key j : ℕ} (now : Walk R s q i t key j) where
-  pub walk_most : start_of s (key + 1) ≤ literals s
-  walk_most = start_most s (key + 1)
-
   pub walk_end : Skips R s q i → start_of s (key + 1) ≤ j → R 0
   walk_end skip l = skip now.x 0 (omega arith) (λ p a b e. occ_done s key now.x j now.left l p b (e ∙ now.is)) now.state
 
@@ -93,6 +133,6 @@ module _ {R : ℕ → Type 0} {s q : List ℕ} {i t key j : ℕ} (now : Walk R s
   -- it is done: then the state is another, and the queue may have more keys
   pub walk-on :
       {R' : ℕ → Type 0} {q' : List ℕ} {t' r : ℕ} (next : Next R s q i key j r) → R' next.p → i < t' → get_or q' i 0 ≡ get_or q i 0
-      → Walk R' s q' i t' key (j + 1)
-  walk-on next a l e =
-      record { x = next.p; state = a; inside = l; low = omega (arith, next.inside); is = e ∙ now.is; left = next.left }
+      → (k : ℕ) → k ≡ j + 1 → Walk R' s q' i t' key k
+  walk-on next a l e k f =
+      record { x = next.p; state = a; inside = l; low = omega (arith, next.inside); is = e ∙ now.is; left = omega (arith, next.left) }

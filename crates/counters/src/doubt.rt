@@ -2,123 +2,82 @@
 // outside U until it is found again (recover.rt). The contracts cite specs/Doubts.
 ghost use Rattle.std.specs.Prelude.{◌≡◌, false, ◌+◌, ◌*◌, ◌<◌, ◌≤◌, length, get_or};
 ghost use Rattle.base.specs.Sets.{set_of};
-ghost use Rattle.job.specs.Accepted.{WellFormed};
 ghost use Rattle.job.specs.Format.{claims, rules, literals, head_at};
-ghost use Rattle.counters.specs.Positions.{owners, Placed};
+ghost use Rattle.counters.specs.Positions.{owners};
 ghost use Rattle.counters.specs.Doubts.{stays, Left, Owed, Falling, Sunk, Negations};
 
-use base::wide;
-use job::format;
+use crate::key_queue::KeyQueue;
+use crate::tables::Tables;
+use job::Job;
 
-// Claim c leaves u for the list, unless it is outside u or in k. How many keys the list then has.
-fn leave(k: &[u8], u: &mut [u8], list: &mut [u16], top: usize, c: usize) -> usize
-    requires c_in_bounds { (c < length k.now) × (c < length u.old) × (c < 32768) }
-    requires top_in_bounds { stays k.now u.old c ≡ false → top < length list.old }
-    ensures { Left k.now c u.old list.old top u.new list.new result }
+// Claim c leaves u for the list, unless it is outside u or in k.
+#[tactic(auto, unfolding(base::specs::Sets::set_of, crate::specs::Doubts::stays))]
+fn leave(k: &[u8], u: &mut [u8], list: &mut KeyQueue<'_>, c: usize)
+    requires claim { (c < length k.now) × (c < length u.old) × (c < 32768) }
+    requires room { stays k.now u.old c ≡ false → list.old.len < length list.old.keys.now }
+    ensures { Left k.now c u.old list.old.keys.now list.old.len u.new list.new.keys.now list.new.len }
 {
-    if u[c] == 0 {
-        return top;
+    if u[c] != 0 && k[c] == 0 {
+        u[c] = 0;
+        list.push((2 * c) as u16);
     }
-    if k[c] != 0 {
-        return top;
-    }
-    u[c] = 0;
-    list[top] = (2 * c) as u16;
-    top + 1
 }
 
 // A position of rule r fails, since its literal does: the rule counts one more, and its head is doubted if it counted none.
-fn owe(
-    job: &[u8],
-    k: &[u8],
-    fail: &mut [u16],
-    u: &mut [u8],
-    list: &mut [u16],
-    r: usize,
-    top: usize,
-) -> usize
-    requires well_formed { WellFormed job.now }
-    requires r_bound { (r < rules job.now) × (length k.now ≡ claims job.now) × (length u.old ≡ claims job.now) × (rules job.now ≤ length fail.old) × (get_or fail.old r 0 < 65535) }
-    requires top_in_bounds { stays k.now u.old (head_at job.now r) ≡ false → top < length list.old }
-    ensures { Owed job.now k.now fail.old u.old list.old r top fail.new u.new list.new result }
+fn owe(job: &Job, k: &[u8], fail: &mut [u16], u: &mut [u8], list: &mut KeyQueue<'_>, r: usize)
+    requires rule { (r < rules job.now) × (length k.now ≡ claims job.now) × (length u.old ≡ claims job.now) × (rules job.now ≤ length fail.old) × (get_or fail.old r 0 < 65535) }
+    requires room { stays k.now u.old (head_at job.now r) ≡ false → list.old.len < length list.old.keys.now }
+    ensures { Owed job.now k.now fail.old u.old list.old.keys.now r list.old.len fail.new u.new list.new.keys.now list.new.len }
 {
     let x = fail[r];
     fail[r] = x + 1;
-    if x != 0 {
-        return top;
+    if x == 0 {
+        leave(k, u, list, job.head_at(r));
     }
-    let head = format::head_at(job, r);
-    leave(k, u, list, top, head)
 }
 
-// The key at place i of the list fails: all positions that have it do. How many keys the list then has.
+// The key at place i of the list fails: all positions that have it do.
 fn fall(
-    job: &[u8],
-    start: &[u16],
-    occ: &[u16],
+    tables: &Tables<'_>,
     k: &[u8],
     fail: &mut [u16],
     u: &mut [u8],
-    list: &mut [u16],
+    list: &mut KeyQueue<'_>,
     i: usize,
-    bottom: usize,
-) -> usize
-    requires well_formed { WellFormed job.now }
-    requires placed { (Placed job.now start.now occ.now) × (length k.now ≡ claims job.now) × (i < bottom) }
-    requires falling { Falling job.now (set_of k.now) (owners job.now) fail.old u.old list.old i (literals job.now) bottom }
-    ensures { (i < result) × (Sunk job.now k.now (owners job.now) fail.old u.old list.old bottom fail.new u.new list.new (i + 1) (literals job.now) result) }
+)
+    requires taken { (length k.now ≡ claims tables.now.job.now) × (i < list.old.len) }
+    requires falling { Falling tables.now.job.now (set_of k.now) (owners tables.now.job.now) fail.old u.old list.old.keys.now i (literals tables.now.job.now) list.old.len }
+    ensures { (i < list.new.len) × (Sunk tables.now.job.now k.now (owners tables.now.job.now) fail.old u.old list.old.keys.now list.old.len fail.new u.new list.new.keys.now (i + 1) (literals tables.now.job.now) list.new.len) }
 {
-    let key = wide::half(list[i]);
-    let end = wide::half(start[key + 1]);
-    let mut j = wide::half(start[key]);
-    let mut top = bottom;
-    while j < end {
-        let r = wide::half(occ[j]);
-        top = owe(job, k, fail, u, list, r, top);
-        j += 1;
+    let key = usize::from(list.keys[i]);
+    for &rule in tables.rules_of(key) {
+        owe(tables.job, k, fail, u, list, usize::from(rule));
     }
-    top
 }
 
-// All keys of the list fail, and those of the claims that are doubted by that. How many keys the list then has.
-pub fn sink(
-    job: &[u8],
-    start: &[u16],
-    occ: &[u16],
-    k: &[u8],
-    fail: &mut [u16],
-    u: &mut [u8],
-    list: &mut [u16],
-    bottom: usize,
-) -> usize
-    requires well_formed { WellFormed job.now }
-    requires placed { (Placed job.now start.now occ.now) × (length k.now ≡ claims job.now) }
-    requires falling { Falling job.now (set_of k.now) (owners job.now) fail.old u.old list.old 0 (literals job.now) bottom }
-    ensures { Sunk job.now k.now (owners job.now) fail.old u.old list.old bottom fail.new u.new list.new result (literals job.now) result }
+// All keys of the list fail, and those of the claims that are doubted by that.
+pub fn sink(tables: &Tables<'_>, k: &[u8], fail: &mut [u16], u: &mut [u8], list: &mut KeyQueue<'_>)
+    requires size { length k.now ≡ claims tables.now.job.now }
+    requires falling { Falling tables.now.job.now (set_of k.now) (owners tables.now.job.now) fail.old u.old list.old.keys.now 0 (literals tables.now.job.now) list.old.len }
+    ensures { Sunk tables.now.job.now k.now (owners tables.now.job.now) fail.old u.old list.old.keys.now list.old.len fail.new u.new list.new.keys.now list.new.len (literals tables.now.job.now) list.new.len }
 {
     let mut i = 0;
-    let mut top = bottom;
-    while i < top {
-        top = fall(job, start, occ, k, fail, u, list, i, top);
+    while i < list.len {
+        fall(tables, k, fail, u, list, i);
         i += 1;
     }
-    top
 }
 
-// The negations of the claims on the queue, onto the list: they fail from now on. How many keys the list then has.
-pub fn negate(queue: &[u16], top: usize, list: &mut [u16]) -> usize
-    requires { (top ≤ length queue.now) × (top ≤ length list.old) }
-    ensures { Negations queue.now top list.new result }
+// The negations of the claims on the queue, now the list: they fail from now on.
+pub fn negate(queue: &KeyQueue<'_>, list: &mut KeyQueue<'_>)
+    requires { (queue.now.len ≤ length queue.now.keys.now) × (queue.now.len ≤ length list.old.keys.now) }
+    ensures negations { Negations queue.now.keys.now queue.now.len list.new.keys.now list.new.len }
+    ensures room { length list.new.keys.now ≡ length list.old.keys.now }
 {
-    let mut n = 0;
-    let mut i = 0;
-    while i < top {
-        let key = queue[i];
+    list.len = 0;
+    for &key in &queue.keys[..queue.len] {
         if key % 2 == 0 {
-            list[n] = key + 1;
-            n += 1;
+            list.push(key + 1);
         }
-        i += 1;
     }
-    n
 }

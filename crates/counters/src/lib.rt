@@ -4,5 +4,7 @@
 
 pub mod derive;
 pub mod doubt;
+pub mod key_queue;
 pub mod occurrences;
 pub mod recover;
+pub mod tables;

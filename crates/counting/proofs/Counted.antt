@@ -1,5 +1,6 @@
 -- What is counted of set k is counted of the job that was written. Assumes nothing.
 --   job-fits, job-length    the written job is the front of the buffer
+--   formed                  it is accepted
 --   verdict-ready, turns-ready   what the counting of it wants
 --   met-is                  what was counted
 --   few_sets, blank-room    how many sets there are at most; room for a set's job
@@ -65,14 +66,14 @@ module _ (n k : ℕ) (few : n ≤ 3) (low : k < set_count n) where
     claims_are : claims (take e job) ≡ n
     claims_are = claims_of (take e job) ∙ ap (λ (j : Job). j.claims) holds ∙ claims_size r ∙ set_size n k low
 
-    formed : WellFormed (take e job)
+    pub formed : WellFormed (take e job)
     formed = subst⁻¹ WellFormed front (set_formed n few r is)
 
-    pub verdict-ready : 1 ≤ n → WellFormed (take e job) × (1 ≤ claims (take e job)) × (claims (take e job) ≤ 3)
-    verdict-ready some = (formed, omega (arith, claims_are), omega (arith, claims_are))
+    pub verdict-ready : 1 ≤ n → (1 ≤ claims (take e job)) × (claims (take e job) ≤ 3)
+    verdict-ready some = (omega (arith, claims_are), omega (arith, claims_are))
 
-    pub turns-ready : WellFormed (take e job) × (used (job_of (take e job)) ≤ 23)
-    turns-ready = (formed, omega (arith, ap used holds, used_low))
+    pub turns-ready : used (job_of (take e job)) ≤ 23
+    turns-ready = omega (arith, ap used holds, used_low)
 
     pub met-is :
         (so : Counts) {v t : ℕ} {m : Counts} → v ≡ byte_of (verdict (program_of (job_of (take e job))) 0) → t ≡ needed_by (job_of (take e job)) → m ≡ met so k v t

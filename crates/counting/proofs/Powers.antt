@@ -1,10 +1,9 @@
 -- Small powers, and digits by division. Assumes nothing.
---   power_none, _one, -two, -three   b to the power of 0, 1, 2, 3, where b is at most 28
---   square-low, cube-low     they are small
+--   power-low                b to the power of k is small, where b is at most 28 and k at most 3
 --   some_power               a power is not 0
 --   choice-by, sign-by       the digits that are a choice of set k, a sign of body x
 use Prim.Native.Nat.{ℕ, zero, suc, ◌-◌, ◌*◌, ◌^◌, ◌/◌, ◌%◌, ◌<◌, ◌≤◌}
-use mathlib.Core.Path.{◌≡◌, sym, ◌∙◌, ap, ap₂}
+use mathlib.Core.Path.{◌≡◌, ◌∙◌, ap, ap₂}
 use native.Mathlib.Nat.{pow-suc, pow-zero, mul-le-mul_right, one-le-pow, mod-lt}
 use native.Mathlib.Omega.{arith}
 use lib.ListN.{get_or}
@@ -12,10 +11,10 @@ use Rattle.base.specs.Number.{Number}
 use Rattle.rulesets.specs.Sets.{absent, sign_number, no_rule, body_no, set_no, choice_number, choice_count, set_count}
 use Rattle.rulesets.proofs.Listed.{set_choice, body_sign}
 
-pub square-low : (b : ℕ) → b ≤ 28 → b * b ≤ 784
+square-low : (b : ℕ) → b ≤ 28 → b * b ≤ 784
 square-low b h = omega (arith, mul-le-mul_right b h)
 
-pub cube-low : (b : ℕ) → b ≤ 28 → b * b * b ≤ 21952
+cube-low : (b : ℕ) → b ≤ 28 → b * b * b ≤ 21952
 cube-low b h = omega (arith, mul-le-mul_right b (square-low b h))
 
 power_of_one : (b : ℕ) → b ^ 1 ≡ b
@@ -27,18 +26,12 @@ power_of-two b = pow-suc b 1 ∙ ap (λ (x : ℕ). x * b) (power_of_one b)
 power_of-three : (b : ℕ) → b ^ 3 ≡ b * b * b
 power_of-three b = pow-suc b 2 ∙ ap (λ (x : ℕ). x * b) (power_of-two b)
 
-module _ (b k : ℕ) where
-  pub power_none : k ≡ 0 → Number 1 (b ^ k) 21953
-  power_none e = record { value = sym (ap (λ (x : ℕ). b ^ x) e ∙ pow-zero b); small = omega arith }
-
-  pub power_one : b ≤ 28 → k ≡ 1 → Number b (b ^ k) 21953
-  power_one h e = record { value = sym (ap (λ (x : ℕ). b ^ x) e ∙ power_of_one b); small = omega arith }
-
-  pub power-two : b ≤ 28 → k ≡ 2 → Number (b * b) (b ^ k) 21953
-  power-two h e = record { value = sym (ap (λ (x : ℕ). b ^ x) e ∙ power_of-two b); small = omega (arith, square-low b h) }
-
-  pub power-three : b ≤ 28 → k ≡ 3 → Number (b * b * b) (b ^ k) 21953
-  power-three h e = record { value = sym (ap (λ (x : ℕ). b ^ x) e ∙ power_of-three b); small = omega (arith, cube-low b h) }
+pub power-low : (b k : ℕ) → b ≤ 28 → k ≤ 3 → b ^ k < 21953
+power-low b zero h l = omega (arith, pow-zero b)
+power-low b (suc zero) h l = omega (arith, power_of_one b)
+power-low b (suc (suc zero)) h l = omega (arith, power_of-two b, square-low b h)
+power-low b (suc (suc (suc zero))) h l = omega (arith, power_of-three b, cube-low b h)
+power-low b (suc (suc (suc (suc k)))) h l = absurd (omega arith)
 
 pub some_power : {p : ℕ} (b k : ℕ) → 0 < b → p ≡ b ^ k → 0 < p
 some_power b k h e = omega (arith, one-le-pow k b h, e)

@@ -9,15 +9,20 @@ use Prim.Native.Nat.{ℕ, zero, suc, ◌+◌, ◌-◌, ◌*◌, ◌^◌, ◌<◌
 use mathlib.Core.Path.{◌≡◌, refl, sym, ◌∙◌, ap, ap₂}
 use mathlib.Core.List.{List, [], ◌∷◌, ◌++◌, flat_map, append-nil}
 use native.Mathlib.Omega.{arith}
+use lib.Dec.{eqb}
+use mathlib.Core.Bool.{Bool, not}
+use borrow.Author.Tests.{ne_eqb}
+use Rattle.std.specs.Int.{from_bool}
 use lib.ListN.{length, get_or, length-append, length-map}
 use Rattle.base.specs.Lists.{upto}
 use Rattle.job.specs.Job.{Rule, body_count}
 use Rattle.job.specs.Encoding.{half_bytes, header_bytes, length_of, rule_bytes, body_bytes, question_bytes, encode}
 use Rattle.fields.specs.Header.{header_of}
 use Rattle.fields.proofs.Heading.{header-job, header-length}
-use Rattle.writing.specs.Written.{Put}
-use Rattle.writing.proofs.Wrote.{put_put, put_as, put_size}
-use Rattle.writing.proofs.Parted.{Parted, parted-start, parted-room, parted_more, parted_end, flat-length, flat_same, flat-map, flat_flat}
+use Rattle.writing.specs.Writes.{Writes, HasRoom}
+use Rattle.writing.specs.declared.writer.Writer.{Writer}
+use Rattle.writing.proofs.Writing.{writes_as, writes-room, writes-writes, Along, along-start, along-room, along_more, along_end}
+use Rattle.writing.proofs.Parted.{flat-length, flat_same, flat-map, flat_flat}
 use Rattle.rulesets.specs.Sets.{Sign, absent, plain, negated, signs, sign_number, Choice, no_rule, rule, body_no, choice_no, set_no, choice_number, choice_count, set_count}
 use Rattle.rulesets.specs.Jobs.{signed, body_literals, chosen_rule, chosen_literals, set_rules, asks, every_claim, job_of_set}
 use Rattle.rulesets.proofs.Listed.{is_set, set_in, set_size, body_size, choice_none, choice-rule, choice-number, choice-in}
@@ -58,14 +63,14 @@ rules_before n k c = length (flat_map (λ i. chosen_rule i (choice_in n k i)) (u
 abbrev pub bodies_before : ℕ → ℕ → ℕ → ℕ
 bodies_before n k c = body_count (flat_map (λ i. chosen_rule i (choice_in n k i)) (upto c))
 
-pub sign-length : (c : ℕ) (x : Sign) {p r : ℕ} → p ≡ sign_number x → (p ≡ 0 → r ≡ 0) × (1 ≤ p → r ≡ 1) → r ≡ length (signed c x)
-sign-length c absent e q = q.0 e
-sign-length c plain e q = q.1 (omega (arith, e))
-sign-length c negated e q = q.1 (omega (arith, e))
+pub sign-length : (c : ℕ) (x : Sign) {p r : ℕ} → p ≡ sign_number x → r ≡ from_bool (not (eqb p 0)) → r ≡ length (signed c x)
+sign-length c absent e q = q ∙ ap (λ (p : ℕ). from_bool (not (eqb p 0))) e
+sign-length c plain e q = q ∙ ap (λ (p : ℕ). from_bool (not (eqb p 0))) e
+sign-length c negated e q = q ∙ ap (λ (p : ℕ). from_bool (not (eqb p 0))) e
 
-pub rule-length : (c : ℕ) (x : Choice) {v r : ℕ} → v ≡ choice_number x → (v ≡ 0 → r ≡ 0) × (1 ≤ v → r ≡ 1) → r ≡ length (chosen_rule c x)
-rule-length c no_rule e q = q.0 e
-rule-length c (rule ps) e q = q.1 (omega (arith, e))
+pub rule-length : (c : ℕ) (x : Choice) {v r : ℕ} → v ≡ choice_number x → r ≡ from_bool (not (eqb v 0)) → r ≡ length (chosen_rule c x)
+rule-length c no_rule e q = q ∙ ap (λ (v : ℕ). from_bool (not (eqb v 0))) e
+rule-length c (rule ps) e q = q ∙ ap (λ (b : Bool). from_bool (not b)) (ne_eqb _ 0 (λ z. omega (arith, e, z)))
 
 -- a sign and a choice by the number that was read
 pub sign-named : (x : Sign) {p : ℕ} → p ≡ sign_number x → get_or signs p absent ≡ x
@@ -181,45 +186,54 @@ module _ (n k : ℕ) (few : n ≤ 3) (low : k < set_count n) where
         ∙ ap₂ (λ (x y : ℕ). header_of x (length (set_rules r)) (body_count (set_rules r)) 1 y) (sym (set_size n k low)) (sym asked)
         ∙ header-job (job_of_set (set_no n k))
 
-    -- o₁ to o₄ are the buffer after each part, a to d the places
-    module _ {o o₁ : List ℕ} {a : ℕ} (long : 78 ≤ length o) (p : Put o 0 (header_of n m l 1 n) o₁ a) where
-      whole : header_bytes (job_of_set r) ++ flat_map rule_bytes (set_rules r) ++ flat_map body_bytes (set_rules r) ++ flat_map question_bytes (every_claim n) ≡ encode (job_of_set r)
-      unfolding encode job_of_set
-      whole = ap (λ (x : ℕ). header_bytes (job_of_set r) ++ flat_map rule_bytes (set_rules r) ++ flat_map body_bytes (set_rules r) ++ flat_map question_bytes (every_claim x)) (sym (set_size n k low))
+    whole : header_bytes (job_of_set r) ++ flat_map rule_bytes (set_rules r) ++ flat_map body_bytes (set_rules r) ++ flat_map question_bytes (every_claim n) ≡ encode (job_of_set r)
+    unfolding encode job_of_set
+    whole = ap (λ (x : ℕ). header_bytes (job_of_set r) ++ flat_map rule_bytes (set_rules r) ++ flat_map body_bytes (set_rules r) ++ flat_map question_bytes (every_claim x)) (sym (set_size n k low))
 
-      head : length (header_of n m l 1 n) ≡ 36
-      head = header-length n m l 1 n
+    abbrev head : List ℕ
+    head = header_of n m l 1 n
 
-      pub size₁ : length o₁ ≡ length o
-      size₁ = put_size o 0 _ o₁ a (omega (arith, head)) p
+    abbrev records : List ℕ
+    records = flat_map rule_bytes (set_rules (set_no n k))
 
-      pub room₁ : a + length (flat_map rule_bytes (set_rules (set_no n k))) ≤ length o₁
-      room₁ = omega (arith, p.next, head, size₁, records-long)
+    abbrev bodies : List ℕ
+    bodies = flat_map body_bytes (set_rules (set_no n k))
 
-      module _ {o₂ : List ℕ} {b : ℕ} (q : Put o₁ a (flat_map rule_bytes (set_rules (set_no n k))) o₂ b) where
-        pub size₂ : length o₂ ≡ length o
-        size₂ = put_size o₁ a _ o₂ b room₁ q ∙ size₁
+    abbrev questions : List ℕ
+    questions = flat_map question_bytes (every_claim n)
 
-        pub room₂ : b + length (flat_map body_bytes (set_rules (set_no n k))) ≤ length o₂
-        room₂ = omega (arith, p.next, q.next, head, size₂, records-long, bodies-long)
+    head-long : length head ≡ 36
+    head-long = header-length n m l 1 n
 
-        module _ {o₃ : List ℕ} {c : ℕ} (s : Put o₂ b (flat_map body_bytes (set_rules (set_no n k))) o₃ c) where
-          pub size₃ : length o₃ ≡ length o
-          size₃ = put_size o₂ b _ o₃ c room₂ s ∙ size₂
+    two-long : length (head ++ records) ≤ 48
+    two-long = omega (arith, length-append head records, head-long, records-long)
 
-          pub room₃ : c + length (flat_map question_bytes (every_claim n)) ≤ length o₃
-          room₃ = omega (arith, p.next, q.next, s.next, head, size₃, records-long, bodies-long, questions-long)
+    three-long : length ((head ++ records) ++ bodies) ≤ 66
+    three-long = omega (arith, length-append (head ++ records) bodies, two-long, bodies-long)
 
-          pub set-written : {o₄ : List ℕ} {d : ℕ} → Put o₃ c (flat_map question_bytes (every_claim n)) o₄ d → Put o 0 (encode (job_of_set (set_no n k))) o₄ d
-          set-written {o₄} {d} t =
-              let h = header_of n m l 1 n in
-              let x = flat_map rule_bytes (set_rules r) in
-              let y = flat_map body_bytes (set_rules r) in
-              let z = flat_map question_bytes (every_claim n) in
-              let p₂ : Put o 0 (h ++ x) o₂ b = put_put o 0 h o₁ a (omega (arith, head)) p x o₂ b q in
-              let p₃ : Put o 0 ((h ++ x) ++ y) o₃ c = put_put o 0 (h ++ x) o₂ b (omega (arith, head, length-append h x, records-long)) p₂ y o₃ c s in
-              let p₄ : Put o 0 (((h ++ x) ++ y) ++ z) o₄ d = put_put o 0 ((h ++ x) ++ y) o₃ c (omega (arith, head, length-append h x, length-append (h ++ x) y, records-long, bodies-long)) p₃ z o₄ d t in
-              put_as p₄ (ap (λ (u : List ℕ). u ++ x ++ y ++ z) header_is ∙ whole)
+    -- w₁ to w₄ are the writer after each part
+    module _ {w w₁ : Writer} (room : HasRoom w 78) (p : Writes w w₁ (header_of n m l 1 n)) where
+      pub room₁ : HasRoom w₁ (length (flat_map rule_bytes (set_rules (set_no n k))))
+      room₁ = writes-room w w₁ head (omega (arith, head-long)) p _ (omega (arith, head-long, records-long))
+
+      module _ {w₂ : Writer} (q : Writes w₁ w₂ (flat_map rule_bytes (set_rules (set_no n k)))) where
+        two : Writes w w₂ (head ++ records)
+        two = writes-writes w w₁ head (omega (arith, head-long)) p w₂ records q
+
+        pub room₂ : HasRoom w₂ (length (flat_map body_bytes (set_rules (set_no n k))))
+        room₂ = writes-room w w₂ (head ++ records) (omega (arith, two-long)) two _ (omega (arith, two-long, bodies-long))
+
+        module _ {w₃ : Writer} (s : Writes w₂ w₃ (flat_map body_bytes (set_rules (set_no n k)))) where
+          three : Writes w w₃ ((head ++ records) ++ bodies)
+          three = writes-writes w w₂ (head ++ records) (omega (arith, two-long)) two w₃ bodies s
+
+          pub room₃ : HasRoom w₃ (length (flat_map question_bytes (every_claim n)))
+          room₃ = writes-room w w₃ ((head ++ records) ++ bodies) (omega (arith, three-long)) three _ (omega (arith, three-long, questions-long))
+
+          pub set-written : {w₄ : Writer} → Writes w₃ w₄ (flat_map question_bytes (every_claim n)) → Writes w w₄ (encode (job_of_set (set_no n k)))
+          set-written {w₄} t =
+              writes_as (writes-writes w w₃ ((head ++ records) ++ bodies) (omega (arith, three-long)) three w₄ questions t)
+              (ap (λ (u : List ℕ). u ++ records ++ bodies ++ questions) header_is ∙ whole)
 
 -- a part for each claim, one after the other
 abbrev pub sign_bytes : ℕ → ℕ → ℕ → List ℕ
@@ -235,19 +249,19 @@ abbrev pub ask_bytes : ℕ → List ℕ
 ask_bytes c = half_bytes 0 ++ half_bytes c
 
 module _ (f : ℕ → List ℕ) (n : ℕ) where
-  pub all_start : {X out : List ℕ} {at : ℕ} → X ≡ flat_map f (upto n) → at + length X ≤ length out → Parted f out at (upto n) out at 0
-  all_start {X} {out} {at} e h = parted-start f out at (upto n) (omega (arith, ap length e))
+  pub all_start : {X : List ℕ} {w : Writer} → X ≡ flat_map f (upto n) → HasRoom w (length X) → Along f w (upto n) w 0
+  all_start {X} {w} e h = along-start f w (upto n) (omega (arith, ap length e))
 
-  module _ {out₀ out : List ℕ} {at to c : ℕ} (p : Parted f out₀ at (upto n) out to c) where
+  module _ {a b : Writer} {c : ℕ} (p : Along f a (upto n) b c) where
     module _ (h : c < n) {X : List ℕ} (e : X ≡ f c) where
-      pub all_room : to + length X ≤ length out
-      all_room = omega (arith, parted-room p c (upto_at n c h) (omega (arith, upto-length n)), ap length e)
+      pub all_room : HasRoom b (length X)
+      all_room = omega (arith, along-room p c (upto_at n c h) (omega (arith, upto-length n)), ap length e)
 
-      pub all_more : {out' : List ℕ} {to' : ℕ} → Put out to X out' to' → Parted f out₀ at (upto n) out' to' (c + 1)
-      all_more q = parted_more p _ _ c (upto_at n c h) (omega (arith, upto-length n)) (put_as q e)
+      pub all_more : {b' : Writer} → Writes b b' X → Along f a (upto n) b' (c + 1)
+      all_more {b'} q = along_more p b' c (upto_at n c h) (omega (arith, upto-length n)) (writes_as q e)
 
-    pub all_done : n ≤ c → {X : List ℕ} → X ≡ flat_map f (upto n) → Put out₀ at X out to
-    all_done h e = put_as (parted_end p (omega (arith, upto-length n))) (sym e)
+    pub all_done : n ≤ c → {X : List ℕ} → X ≡ flat_map f (upto n) → Writes a b X
+    all_done h e = writes_as (along_end p (omega (arith, upto-length n))) (sym e)
 
 pub set_long : (n k : ℕ) → n ≤ 3 → k < set_count n → length (encode (job_of_set (set_no n k))) ≤ 78
 unfolding encode job_of_set header_bytes

@@ -11,16 +11,7 @@ fn power(b: usize, k: usize) -> usize
     requires { (b ≤ 28) × (k ≤ 3) }
     ensures { Number result (b ^ k) 21953 }
 {
-    if k == 0 {
-        return 1;
-    }
-    if k == 1 {
-        return b;
-    }
-    if k == 2 {
-        return b * b;
-    }
-    b * b * b
+    b.pow(k as u32)
 }
 
 // How many choices a claim has: no rule, or one of the bodies.

@@ -11,6 +11,7 @@ mod needed;
 mod sums;
 mod write;
 
+use job::Refusal;
 use rulesets::{CensusAnswer, Counts};
 
 // The five numbers of a size from 1 to 3.
@@ -18,11 +19,9 @@ fn count_sets(size: usize) -> Counts
     requires { (1 ≤ size) × (size ≤ 3) }
     ensures { result ≡ census_of size }
 {
-    let all = digits::set_count(size);
-    let mut counts = sums::none_met();
-    for k in 0..all {
-        let next = sums::met_set(counts, size, k);
-        counts = next;
+    let mut counts = Counts::default();
+    for k in 0..digits::set_count(size) {
+        counts = sums::met_set(counts, size, k);
     }
     counts
 }
@@ -32,17 +31,11 @@ pub fn census(size: usize) -> CensusAnswer
     ensures value { result ≡ census_answer size }
     ensures laws { Laws size result }
 {
-    if size < 1 {
-        return CensusAnswer::Refused {
+    if !(1..=digits::MOST_SIZE).contains(&size) {
+        return Err(Refusal {
             number: 26,
             place: size,
-        };
+        });
     }
-    if digits::MOST_SIZE < size {
-        return CensusAnswer::Refused {
-            number: 26,
-            place: size,
-        };
-    }
-    CensusAnswer::Counted(count_sets(size))
+    Ok(count_sets(size))
 }

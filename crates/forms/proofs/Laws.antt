@@ -14,7 +14,7 @@ use Rattle.job.specs.Format.{job_of}
 use Rattle.job.specs.Accepted.{WellFormed}
 use Rattle.job.specs.Checks.{check_job}
 use Rattle.job.specs.Encoding.{encode, Valid}
-use Rattle.job.specs.declared.Check.TheVariants.{Accepted}
+use Rattle.job.specs.Check.{Accepted}
 use Rattle.job.proofs.Accepted.{well_formed, accepted}
 use Rattle.job.proofs.Fields.{encode-length}
 use Rattle.job.proofs.Written.{rules_count, questions_count, literals_count}

@@ -10,7 +10,7 @@ use Rattle.job.specs.Job.{Rule, Job}
 use Rattle.job.specs.Format.{job_of}
 use Rattle.job.specs.Checks.{check_job}
 use Rattle.job.specs.Encoding.{◌∈◌, field_of, encode, Valid}
-use Rattle.job.specs.declared.Check.TheVariants.{Accepted}
+use Rattle.job.specs.Check.{Accepted}
 use Rattle.job.specs.declared.Literal.{Literal}
 use Rattle.semantics.specs.Model.{program_of, verdict}
 use Rattle.forms.specs.Order.{lex}

@@ -8,7 +8,7 @@ use Rattle.std.specs.Prelude.{◌≡◌, List, [], ◌∷◌, map}
 use Rattle.job.specs.Job.{Rule, Job, ◌if◌, missing_record}
 use Rattle.job.specs.Checks.{check_job}
 use Rattle.job.specs.Encoding.{encode}
-use Rattle.job.specs.declared.Check.TheVariants.{Accepted}
+use Rattle.job.specs.Check.{Accepted}
 use Rattle.job.specs.declared.Literal.TheVariants.{Plain, Negated}
 use Rattle.forms.specs.Form.{form}
 

@@ -9,5 +9,8 @@ ghost use Rattle.group_calls.specs.Numbers.{Admitted};
 pub extern "C" fn group_admit(job: &[u8], groups: &[u8], workers: &[u8]) -> u64
     ensures { Admitted job.now groups.now workers.now result }
 {
-    codes::of_written(groups::admit(job, groups, workers), 0)
+    match groups::admit(job, groups, workers) {
+        Ok(()) => 0,
+        Err(refusal) => codes::of_refusal(refusal),
+    }
 }

@@ -1,4 +1,5 @@
 -- The rows of the call, and what they mean (specs/Admission: Answer). Assumes nothing.
+--   list-row, list-long                          row 20 of one list, by its length
 --   lists-right, claims-wrong, workers-wrong     row 20, by the lengths
 --   admit_first, admit-lists, admit-questions    the rows in order
 --   answered, answer-of                          the call's answer is as the order says, and back
@@ -13,23 +14,33 @@ use native.Mathlib.Omega.{arith}
 use lib.ListN.{length}
 use Rattle.base.proofs.Bools.{is, is_true}
 use Rattle.base.proofs.Choose.{t?}
-use Rattle.base.proofs.Compare.{differs-yes, differs-no}
+use Rattle.base.specs.Compare.{differs}
+use Rattle.base.proofs.Compare.{differs-yes, differs-no, differs_eq}
 use Rattle.base.proofs.Members.{span_all}
 use Rattle.base.proofs.Search.{First, first, none, first_of}
 use Rattle.job.specs.Accepted.{WellFormed}
 use Rattle.job.specs.Encoding.{◌∈◌, Valid}
 use Rattle.job.specs.Format.{claims, rules, literals, workers, questions, question_byte, job_of}
 use Rattle.job.specs.Checks.{check_job}
-use Rattle.job.specs.declared.Check.{Check}
-use Rattle.job.specs.declared.Check.TheVariants.{Accepted, Refused}
+use Rattle.job.specs.Check.{Check}
+use Rattle.job.specs.Check.{Accepted, Refused}
+use Rattle.std.specs.Prelude.{Err}
 use Rattle.job.specs.declared.Question.{Question}
 use Rattle.job.proofs.Accepted.{well_formed}
-use Rattle.job.proofs.Rows.{pass, stop, go, halt, scan_none, scan_at}
+use Rattle.job.specs.Rows.{row}
+use Rattle.job.proofs.Rows.{pass, stop, go, halt, row-no, scan_none, scan_at}
 use Rattle.job.proofs.Valid.{well_formed-valid}
 use Rattle.groups.specs.Groups.{MayPut, foreign, group_of, asked, asker_group, bad_question, check_lists, check_partners, admit_check}
 use Rattle.groups.specs.Admission.{Permitted, LeadsAbroad, Answer, first as rows_first, claims_list, workers_list, question, admitted}
 use Rattle.groups.proofs.Foreign.{foreign_open, open-foreign}
 use Rattle.groups.proofs.Abroad.{abroad-to, to-abroad, permitted, not-abroad}
+
+-- row 20 of a list that is to have as many bytes as was read
+pub list-row : (list : List ℕ) (n m : ℕ) {r : Check} → r ≡ row (differs (length list) n) 20 (length list) → n ≡ m → r ≡ row (differs (length list) m) 20 (length list)
+list-row list n m h e = rw (← e) h
+
+pub list-long : (list : List ℕ) (n : ℕ) → Accepted ≡ row (differs (length list) n) 20 (length list) → length list ≡ n
+list-long list n e = differs_eq _ _ (row-no _ _ _ e)
 
 module _ (s gs ws : List ℕ) where
   lists-right : length gs ≡ claims s → length ws ≡ workers s → Accepted ≡ check_lists s gs ws
@@ -104,7 +115,7 @@ module _ (s gs ws : List ℕ) where
 
   -- one of the answers is given
   given : (c : Check) → check_job s ≡ c → (r : Check) × Answer s gs ws r
-  given (Refused n p) e = (Refused n p, rows_first n p e)
+  given (Err refusal) e = (Err refusal, rows_first refusal.number refusal.place e)
   given Accepted e =
       by_cases (ℕ_discrete (length gs) (claims s))
       (λ a.

@@ -9,7 +9,7 @@ use lib.ListN.{length, get_or}
 use Rattle.base.specs.Graph.{here}
 use Rattle.job.specs.Format.{workers, job_of}
 use Rattle.job.specs.Checks.{check_job}
-use Rattle.job.specs.declared.Check.TheVariants.{Accepted}
+use Rattle.job.specs.Check.{Accepted}
 use Rattle.job.specs.declared.Question.{Question}
 use Rattle.semantics.specs.Model.{byte_of, program_of, verdict}
 use Rattle.table.specs.Questions.{positions_of, asked_by, claim_asked, question_claim}

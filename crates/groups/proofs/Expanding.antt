@@ -1,21 +1,17 @@
 -- Meeting the claims of a stretch of literals (specs/Scopes: Expanded). Assumes nothing.
---   expanded-start   none yet;   expanded-more   one more;   expanded-to   up to here
+--   expanded-more   one more;   expanded-to   up to here
 use Prim.Native.Nat.{ℕ, ◌+◌, ◌≤◌, ◌<◌}
-use mathlib.Core.Path.{◌≡◌, refl, sym, ◌∙◌, ap, subst, subst⁻¹}
+use mathlib.Core.Path.{◌≡◌, sym, ◌∙◌, ap, subst, subst⁻¹}
 use mathlib.Core.Logic.{by_cases}
 use native.Mathlib.Decide.{ℕ_discrete}
 use native.Mathlib.Omega.{arith}
 use lib.Dec.{T}
 use Rattle.job.specs.Job.{Job, most_claims}
-use Rattle.groups.specs.Scopes.{scope, settled, Work, visit, Fits, Expanded}
+use Rattle.groups.specs.Scopes.{scope, settled, Work, visit, Expanded}
 use Rattle.groups.proofs.Scopes.{visit-fits, visit-queued, visit-there, visit-keeps}
 use Rattle.groups.proofs.Searching.{searching-visit}
 
 module _ (j : Job) (g : ℕ) (f : ℕ → ℕ) (a : ℕ) where
-  pub expanded-start : (k : Work) → Fits g k → Expanded j g f a a k k
-  expanded-start k fits =
-      record { fits = fits; queued = λ n l. (l, refl); keeps = λ d t. t; met = λ y l h. absurd (omega arith); carries = λ gs c i ways search. search }
-
   visited : (y : ℕ) (k₀ k : Work) → Expanded j g f a y k₀ k → a ≤ y → f y < most_claims → Expanded j g f a (y + 1) k₀ (visit g (f y) k)
   visited y k₀ k x from low =
       record {

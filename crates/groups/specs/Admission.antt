@@ -8,8 +8,8 @@
 use Rattle.std.specs.Prelude.{ℕ, ◌<◌, ◌≡◌, List, ◌↔◌, length}
 use Rattle.job.specs.Format.{claims, rules, literals, workers, questions, question_byte, job_of}
 use Rattle.job.specs.Checks.{check_job}
-use Rattle.job.specs.declared.Check.{Check}
-use Rattle.job.specs.declared.Check.TheVariants.{Accepted, Refused}
+use Rattle.job.specs.Check.{Check}
+use Rattle.job.specs.Check.{Accepted, Refused}
 use Rattle.semantics.specs.Leads.{LeadsTo}
 use Rattle.semantics.specs.Model.{program_of, verdict}
 use Rattle.table.specs.Questions.{asked_by, question_claim}

@@ -18,8 +18,8 @@ use Rattle.job.specs.Format.{claims, rules, literals, workers, questions, questi
 use Rattle.job.specs.Encoding.{◌∈◌}
 use Rattle.job.specs.Rows.{◌⨾◌, row, scan}
 use Rattle.job.specs.Checks.{check_job}
-use Rattle.job.specs.declared.Check.{Check}
-use Rattle.job.specs.declared.Check.TheVariants.{Accepted}
+use Rattle.job.specs.Check.{Check}
+use Rattle.job.specs.Check.{Accepted}
 use Rattle.job.specs.declared.Literal.{Literal}
 use Rattle.job.specs.declared.Question.{Question}
 use Rattle.semantics.specs.Leads.{LeadsTo}

@@ -12,7 +12,7 @@ use Rattle.base.proofs.Compare.{under-no, under_le, over_no, over_le, not_below-
 use Rattle.job.specs.Format.{rules, literals, body_start}
 use Rattle.job.specs.Checks.{long_body, check_length, check_total, check_counts, check_offsets, check_heads, check_bodies, check_literals, check_questions, check_header, check_parts, check_job}
 use Rattle.job.specs.Accepted.{Sized, WellFormed}
-use Rattle.job.specs.declared.Check.TheVariants.{Accepted}
+use Rattle.job.specs.Check.{Accepted}
 use Rattle.job.proofs.Rows.{both, join, pass, row-no, scan_all, scan_none}
 use Rattle.job.proofs.Parts.{body-within}
 

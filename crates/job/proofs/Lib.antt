@@ -15,3 +15,4 @@ pub mod Written
 pub mod Valid
 pub mod Answers
 pub mod Encoding
+pub mod Questions

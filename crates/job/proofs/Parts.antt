@@ -7,6 +7,7 @@ use native.Mathlib.Omega.{arith}
 use native.Mathlib.Nat.{eq-or-lt_of_le, le_of_suc-le-suc}
 use native.Mathlib.Numerals.{add-one}
 use Rattle.job.specs.Format.{rules, literals, head_at, head_before, body_start, body_length_at, literal_at, question_at}
+use Rattle.job.specs.Accepted.{WellFormed}
 use Rattle.job.specs.Job.{claim_of}
 use Rattle.job.specs.declared.Literal.{Literal}
 use Rattle.job.specs.declared.Question.{Question}
@@ -30,6 +31,10 @@ unfolding body_start
 body-within s i zero l = absurd (omega arith)
 body-within s i (suc m) l =
     ⊎_elim (λ e. rw e (omega arith)) (λ h. omega (arith, body-within s i m h)) (eq-or-lt_of_le (le_of_suc-le-suc l))
+
+-- so of an accepted job within its literals
+pub within-literals : (s : List ℕ) → WellFormed s → (i : ℕ) → i < rules s → body_start s i + body_length_at s i ≤ literals s
+within-literals s w i l = omega (arith, body-within s i (rules s) l, w.bodies)
 
 -- heads that never fall rise from any rule to any later one
 pub rises : (s : List ℕ) (m : ℕ) → ((k : ℕ) → k < m → head_before s k ≤ head_at s k) → (j i : ℕ) → j ≤ i → i < m → head_at s j ≤ head_at s i

@@ -2,10 +2,14 @@
 use Prim.Native.Nat.{ℕ, zero, suc, ◌<◌}
 use mathlib.Core.Path.{◌≡◌, refl, sym, ◌∙◌, ap}
 use mathlib.Core.Bool.{Bool, true, false}
+use Rattle.std.specs.Prelude.{Err, Result}
+use Rattle.std.specs.Result.{IsErrAnd}
+use Rattle.std.proofs.lemmas.Result.{err_from_is_err_and}
+use Rattle.job.specs.declared.Refusal.{Refusal}
 use native.Mathlib.Omega.{arith}
 use Rattle.job.specs.Rows.{◌⨾◌, row, scan}
-use Rattle.job.specs.declared.Check.{Check}
-use Rattle.job.specs.declared.Check.TheVariants.{Accepted, Refused}
+use Rattle.job.specs.Check.{Check}
+use Rattle.job.specs.Check.{Accepted, Refused}
 
 -- a row that does not hold hands on to the later ones, and one that holds refuses
 pub pass : (b : Bool) (n p : ℕ) (later : Check) {r : Check} → b ≡ false → r ≡ later → r ≡ row b n p ⨾ later
@@ -25,6 +29,18 @@ pub halt : (x later : Check) {r : Check} {n p : ℕ} → r ≡ Refused n p → r
 unfolding ◌⨾◌
 halt x later e q = e ∙ rw (sym q ∙ e)
 
+-- the same where `?` hands the answer on: what it lets through, and what it returns at once
+pub onward : (x later : Check) {r : Check} → Accepted ≡ x → r ≡ later → r ≡ x ⨾ later
+unfolding ◌⨾◌
+onward x later e q = rw (← e) q
+
+pub returned : {A : Type 0} (r : Result A Refusal) {e : Refusal} → IsErrAnd r (λ y. y ≡ e) → r ≡ Err e
+returned r h = let p = err_from_is_err_and r h in rw (p.1, p.2) refl
+
+pub exit : (x later : Check) {r : Check} {e : Refusal} → IsErrAnd r (λ y. y ≡ e) → Err e ≡ x → r ≡ x ⨾ later
+unfolding ◌⨾◌
+exit x later {r} h q = rw (← q) (returned r h)
+
 -- a scan that finds none, and one that stops at i
 pub scan_none : (bad : ℕ → Bool) (n number : ℕ) (place : ℕ → ℕ) → ((k : ℕ) → k < n → bad k ≡ false) → Accepted ≡ scan bad n number place
 unfolding scan
@@ -43,7 +59,7 @@ scan_at bad (suc n) (suc i) number place l h e =
 pub both : (x later : Check) → Accepted ≡ x ⨾ later → (Accepted ≡ x) × (Accepted ≡ later)
 unfolding ◌⨾◌
 both Accepted later e = (refl, e)
-both (Refused n p) later e = let z : ◌≡◌ {A = ℕ} 0 1 = cc in absurd (omega arith)
+both (Err refusal) later e = let z : ◌≡◌ {A = ℕ} 0 1 = cc in absurd (omega arith)
 
 pub join : (x later : Check) → Accepted ≡ x → Accepted ≡ later → Accepted ≡ x ⨾ later
 unfolding ◌⨾◌

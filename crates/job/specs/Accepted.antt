@@ -1,7 +1,9 @@
 -- What an accepted job has: the facts that a layer above goes by (proofs/Accepted: accepted exactly where these hold).
 --   Sized s        what the rows of the header leave
 --   WellFormed s   what all rows leave
+--   Parted s m l   s is accepted, with m rules and l literals: what the type `Job` keeps
 use Rattle.std.specs.Prelude.{ℕ, ◌<◌, ◌≤◌, List, ◌≡◌, length}
+use Rattle.job.specs.Bytes.{Bytes}
 use Rattle.job.specs.Job.{claim_of, most_claims, most_rules, most_literals, most_workers, most_questions}
 use Rattle.job.specs.Format.{total, claims, rules, literals, workers, questions, rules_offset, literals_offset, questions_offset, rule_byte, literal_byte, question_byte, head_at, head_before, body_start, literal_at, question_at}
 
@@ -26,3 +28,9 @@ pub record WellFormed (s : List ℕ) : Type 0 where
   pub literal : (k : ℕ) → k < literals s → claim_of (literal_at s (rules s) k) < claims s
   pub asker : (q : ℕ) → q < questions s → (question_at s (rules s) (literals s) q).worker < workers s
   pub asked : (q : ℕ) → q < questions s → (question_at s (rules s) (literals s) q).claim < claims s
+
+pub record Parted (s : List ℕ) (m l : ℕ) : Type 0 where
+  pub accepted : WellFormed s
+  pub all_bytes : Bytes s
+  pub rules_is : m ≡ rules s
+  pub literals_is : l ≡ literals s

@@ -5,8 +5,8 @@ use Rattle.base.specs.Compare.{under, over, not_below, differs}
 use Rattle.job.specs.Rows.{◌⨾◌, row, scan}
 use Rattle.job.specs.Job.{claim_of, most_claims, most_rules, most_literals, most_workers, most_questions}
 use Rattle.job.specs.Format.{total, claims, rules, literals, workers, questions, rules_offset, literals_offset, questions_offset, rule_byte, literal_byte, question_byte, head_at, body_length_at, head_before, body_start, literal_at, question_at}
-use Rattle.job.specs.declared.Check.{Check}
-use Rattle.job.specs.declared.Check.TheVariants.{Accepted}
+use Rattle.job.specs.Check.{Check}
+use Rattle.job.specs.Check.{Accepted}
 
 -- job length | 1 | under 36 or over 61,476 | the length
 unfoldable pub check_length : List ℕ → Check

@@ -1,3 +1,4 @@
+pub mod Check
 pub mod Bytes
 pub mod Job
 pub mod Format

@@ -11,8 +11,8 @@ use Rattle.job.specs.Format.{job_of}
 use Rattle.job.specs.Checks.{check_job}
 use Rattle.job.specs.Encoding.{encode, Valid}
 use Rattle.job.specs.declared.Literal.TheVariants.{Plain, Negated}
-use Rattle.job.specs.declared.Check.{Check}
-use Rattle.job.specs.declared.Check.TheVariants.{Accepted, Refused}
+use Rattle.job.specs.Check.{Check}
+use Rattle.job.specs.Check.{Accepted, Refused}
 
 -- 0 if 1; 2 if not 0, 1. Worker 0 asks 2, worker 1 asks 0. Rules stand at bytes 36 and 40, literals at 44, 46 and 48, questions at 50 and 54.
 abbrev small : List ℕ

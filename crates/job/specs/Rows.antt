@@ -2,14 +2,14 @@
 --   x ⨾ y                      the first refusal of two checks
 --   row b number place         one test of the table: refused where it holds
 --   scan bad n number place    a test of the items 0 to n - 1 in turn: refused at the place of the first at which it holds
-use Rattle.std.specs.Prelude.{ℕ, zero, suc, Bool, true, false}
-use Rattle.job.specs.declared.Check.{Check}
-use Rattle.job.specs.declared.Check.TheVariants.{Accepted, Refused}
+use Rattle.std.specs.Prelude.{ℕ, zero, suc, Bool, true, false, Err}
+use Rattle.job.specs.Check.{Check}
+use Rattle.job.specs.Check.{Accepted, Refused}
 
 infixr 20 ◌⨾◌
 unfoldable pub ◌⨾◌ : Check → Check → Check
 Accepted ⨾ later = later
-Refused number place ⨾ later = Refused number place
+Err refusal ⨾ later = Err refusal
 
 unfoldable pub row : Bool → ℕ → ℕ → Check
 row true number place = Refused number place

@@ -3,14 +3,12 @@ ghost use Rattle.std.specs.Prelude.{◌+◌, ◌≤◌, length};
 ghost use Rattle.base.specs.Number.{Number};
 ghost use Rattle.job.specs.Bytes.{half as half_of, word as word_of};
 
-use base::wide;
-
 // The 16 bits at a byte.
 pub fn half(s: &[u8], at: usize) -> usize
     requires { at + 2 ≤ length s.now }
     ensures { Number result (half_of s.now at) 65536 }
 {
-    wide::byte(s[at]) + 256 * wide::byte(s[at + 1])
+    usize::from(s[at]) + 256 * usize::from(s[at + 1])
 }
 
 // The 32 bits at a byte.

@@ -4,10 +4,10 @@ ghost use Rattle.job.specs.Job.{claim_of};
 ghost use Rattle.job.specs.Format.{rules, literals, body_start, literal_at};
 ghost use Rattle.job.specs.Accepted.{Sized};
 ghost use Rattle.job.specs.Reading.{Reading};
+ghost use Rattle.job.specs.Check.{Refused};
 ghost use Rattle.job.specs.Checks.{check_length, check_total, check_counts, check_offsets, check_heads, check_bodies, check_literals, check_questions, check_header, check_parts, check_job};
 
-use crate::{Check, bytes, format};
-use base::wide;
+use crate::{Check, Refusal, bytes, format};
 
 const HEADER_BYTES: usize = 36;
 
@@ -24,9 +24,9 @@ pub const MOST_WORKERS: usize = 32;
 pub const MOST_QUESTIONS: usize = 1024;
 
 fn refused(number: u32, place: usize) -> Check
-    ensures { result ≡ Check.Refused number place }
+    ensures { result ≡ Refused number place }
 {
-    Check::Refused { number, place }
+    Err(Refusal { number, place })
 }
 
 fn check_length(job: &[u8]) -> Check
@@ -39,7 +39,7 @@ fn check_length(job: &[u8]) -> Check
     if MOST_BYTES < n {
         return refused(1, n);
     }
-    Check::Accepted
+    Ok(())
 }
 
 fn check_total(job: &[u8]) -> Check
@@ -49,7 +49,7 @@ fn check_total(job: &[u8]) -> Check
     if bytes::word(job, 0) != job.len() {
         return refused(2, 0);
     }
-    Check::Accepted
+    Ok(())
 }
 
 fn check_counts(job: &[u8]) -> Check
@@ -75,7 +75,7 @@ fn check_counts(job: &[u8]) -> Check
     if MOST_QUESTIONS < format::question_count(job) {
         return refused(3, 20);
     }
-    Check::Accepted
+    Ok(())
 }
 
 fn check_offsets(job: &[u8]) -> Check
@@ -97,7 +97,7 @@ fn check_offsets(job: &[u8]) -> Check
     if bytes::word(job, 0) != total {
         return refused(4, 0);
     }
-    Check::Accepted
+    Ok(())
 }
 
 // Each head is below the claims and not below the head before it.
@@ -119,7 +119,7 @@ fn check_heads(job: &[u8]) -> Check
         }
         before = head;
     }
-    Check::Accepted
+    Ok(())
 }
 
 // The body lengths add up to the literals, and pass them at no rule.
@@ -139,7 +139,7 @@ fn check_bodies(job: &[u8]) -> Check
     if passed < literals {
         return refused(6, HEADER_BYTES + 4 * rules);
     }
-    Check::Accepted
+    Ok(())
 }
 
 // No literal's claim is above the one answered. One pass without branches, in 16 bits: the compiler takes several literals at once.
@@ -153,9 +153,7 @@ fn highest_claim(job: &[u8]) -> u16
     for k in 0..literals {
         let field = bytes::half(job, HEADER_BYTES + 4 * rules + 2 * k);
         let claim = (field % format::NEGATED) as u16;
-        if highest < claim {
-            highest = claim;
-        }
+        highest = highest.max(claim);
     }
     highest
 }
@@ -169,23 +167,25 @@ fn check_literals(job: &[u8]) -> Check
 {
     let claims = format::claim_count(job);
     let rules = format::rule_count(job);
-    if wide::half(highest_claim(job)) < claims {
-        return Check::Accepted;
+    if usize::from(highest_claim(job)) < claims {
+        return Ok(());
     }
-    let mut k: usize = 0;
+    let mut passed: usize = 0;
+    let mut fault = None;
     'rules: for i in 0..rules {
-        let end = k + format::body_length_at(job, i);
-        while k < end {
+        let end = passed + format::body_length_at(job, i);
+        for k in passed..end {
             if claims <= format::claim_of(format::literal_at(job, rules, k)) {
+                fault = Some(k);
                 break 'rules;
             }
-            k += 1;
         }
+        passed = end;
     }
-    if k < format::literal_count(job) {
-        return refused(7, HEADER_BYTES + 4 * rules + 2 * k);
+    match fault {
+        Some(k) => refused(7, HEADER_BYTES + 4 * rules + 2 * k),
+        None => Ok(()),
     }
-    Check::Accepted
 }
 
 // Each question's worker is below the workers, and its claim below the claims.
@@ -209,25 +209,16 @@ fn check_questions(job: &[u8]) -> Check
             return refused(8, at);
         }
     }
-    Check::Accepted
+    Ok(())
 }
 
 // The rows of the header.
 fn check_header(job: &[u8]) -> Check
     ensures { result ≡ check_header job.now }
 {
-    let length = check_length(job);
-    let Check::Accepted = length else {
-        return length;
-    };
-    let total = check_total(job);
-    let Check::Accepted = total else {
-        return total;
-    };
-    let counts = check_counts(job);
-    let Check::Accepted = counts else {
-        return counts;
-    };
+    check_length(job)?;
+    check_total(job)?;
+    check_counts(job)?;
     check_offsets(job)
 }
 
@@ -236,18 +227,9 @@ fn check_parts(job: &[u8]) -> Check
     requires { Sized job.now }
     ensures { result ≡ check_parts job.now }
 {
-    let heads = check_heads(job);
-    let Check::Accepted = heads else {
-        return heads;
-    };
-    let bodies = check_bodies(job);
-    let Check::Accepted = bodies else {
-        return bodies;
-    };
-    let literals = check_literals(job);
-    let Check::Accepted = literals else {
-        return literals;
-    };
+    check_heads(job)?;
+    check_bodies(job)?;
+    check_literals(job)?;
     check_questions(job)
 }
 
@@ -256,9 +238,6 @@ pub fn check_job(job: &[u8]) -> Check
     ensures value { result ≡ check_job job.now }
     ensures reading { Reading }
 {
-    let header = check_header(job);
-    let Check::Accepted = header else {
-        return header;
-    };
+    check_header(job)?;
     check_parts(job)
 }

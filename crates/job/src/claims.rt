@@ -3,13 +3,12 @@ ghost use Rattle.std.specs.Prelude.{◌≡◌, ◌&&◌, ◌+◌, ◌-◌, ◌^�
 ghost use Rattle.std.specs.Int.Bits.{bit_or};
 ghost use Rattle.base.specs.Compare.{under};
 ghost use Rattle.job.specs.Accepted.{WellFormed};
-ghost use Rattle.job.specs.Job.{most_claims, most_literals};
-ghost use Rattle.job.specs.Format.{rule_byte, head_at, literal_byte, literal_at};
+ghost use Rattle.job.specs.Job.{claim_of, most_claims, most_literals};
+ghost use Rattle.job.specs.Format.{claims, rules, literals, rule_byte, head_at, literal_at};
 ghost use Rattle.job.specs.Claims.{index_entries, Index, bound_at, end_in, moved, past_rule};
 
 use crate::checks::{MOST_CLAIMS, MOST_LITERALS};
-use crate::{ClaimIndex, Cursor, Literal, format};
-use base::wide;
+use crate::{ClaimIndex, Cursor, Job, Literal, format};
 
 // The index has a field for each claim and one more, and then a bit for each literal and one more, 16 to a field.
 const BOUNDS_AT: usize = MOST_CLAIMS + 1;
@@ -21,17 +20,7 @@ fn head_below(job: &[u8], rules: usize, i: usize, claim: usize) -> bool
     requires { rule_byte rules ≤ length job.now }
     ensures { result ≡ (under i rules && under (head_at job.now i) claim) }
 {
-    if i < rules {
-        return format::head_at(job, i) < claim;
-    }
-    false
-}
-
-// An index to be filled.
-fn no_index() -> ClaimIndex
-    ensures { result ≡ replicate index_entries 0 }
-{
-    [0u16; INDEX_ENTRIES]
+    i < rules && format::head_at(job, i) < claim
 }
 
 // A field with one more bit set.
@@ -42,15 +31,15 @@ fn with_bit(bits: u16, i: usize) -> u16
     bits | (1u16 << i)
 }
 
-// The index of claims: where each claim's literals start among the job's, past the last claim where they end, and before which literals
-// a rule ends. One pass over rules and claims together.
-pub fn index_claims(job: &[u8]) -> ClaimIndex
-    requires { WellFormed job.now }
-    ensures { Index job.now result }
+// The index of claims, into an array of zeros: where each claim's literals start among the job's, past the last claim where they end, and before which
+// literals a rule ends. One pass over rules and claims together.
+pub fn fill_index(job: &[u8], index: &mut ClaimIndex)
+    requires accepted { WellFormed job.now }
+    requires zeros { index.old ≡ replicate index_entries 0 }
+    ensures { Index job.now index.new }
 {
     let claims = format::claim_count(job);
     let rules = format::rule_count(job);
-    let mut index = no_index();
     let mut i: usize = 0;
     let mut claim: usize = 0;
     let mut passed: usize = 0;
@@ -65,6 +54,15 @@ pub fn index_claims(job: &[u8]) -> ClaimIndex
             claim += 1;
         }
     }
+}
+
+// The index of claims of an accepted job's bytes.
+pub fn index_claims(job: &[u8]) -> ClaimIndex
+    requires { WellFormed job.now }
+    ensures { Index job.now result }
+{
+    let mut index = [0u16; INDEX_ENTRIES];
+    fill_index(job, &mut index);
     index
 }
 
@@ -81,14 +79,12 @@ pub fn rule_end(index: &ClaimIndex, at: usize) -> usize
     requires { at < most_literals }
     ensures { (result ≡ end_in index.now at) × (result ≤ most_literals + 1) }
 {
-    let mut end = at + 1;
-    while end <= MOST_LITERALS {
+    for end in at + 1..MOST_LITERALS + 1 {
         if bounded(index, end) {
             return end;
         }
-        end += 1;
     }
-    end
+    MOST_LITERALS + 1
 }
 
 impl Cursor {
@@ -98,8 +94,8 @@ impl Cursor {
         ensures { result ≡ record { at = get_or index.now claim 0 + passed; end = get_or index.now (claim + 1) 0 } }
     {
         Cursor {
-            at: wide::half(index[claim]) + passed,
-            end: wide::half(index[claim + 1]),
+            at: usize::from(index[claim]) + passed,
+            end: usize::from(index[claim + 1]),
         }
     }
 
@@ -108,7 +104,7 @@ impl Cursor {
         requires { (claim < most_claims) × (get_or index.now claim 0 ≤ self.at) }
         ensures { result ≡ self.at - get_or index.now claim 0 }
     {
-        self.at - wide::half(index[claim])
+        self.at - usize::from(index[claim])
     }
 
     // Whether no literal is left.
@@ -118,13 +114,14 @@ impl Cursor {
         self.end <= self.at
     }
 
-    // The current literal, of a job with this many rules.
-    pub fn current(self, job: &[u8], rules: usize) -> Literal
-        requires { literal_byte rules self.at + 2 ≤ length job.now }
-        ensures { result ≡ literal_at job.now rules self.at }
+    // The current literal of the job.
+    pub fn current(self, job: &Job) -> Literal
+        requires { self.at < literals job.now }
+        ensures value { result ≡ literal_at job.now (rules job.now) self.at }
+        ensures below { claim_of result < claims job.now }
     {
         let at = self.at;
-        format::literal_at(job, rules, at)
+        job.literal_at(at)
     }
 
     // The cursor past the current literal's rule.

@@ -8,8 +8,5 @@ ghost use Rattle.line_calls.specs.Numbers.{Answered};
 pub extern "C" fn lines_job(text: &[u8], out: &mut [u8]) -> u64
     ensures { Answered text.now out.old out.new result }
 {
-    let answer = lines::typed::job_of_lines(text, out);
-    let check = answer.check;
-    let length = answer.length;
-    codes::of_written(check, length)
+    codes::of_written(lines::typed::job_of_lines(text, out))
 }

@@ -7,12 +7,23 @@ use Prim.Native.Nat.{ℕ, ◌+◌, ◌*◌, ◌<◌, ◌≤◌}
 use mathlib.Core.Path.{◌≡◌, refl, sym, ◌∙◌, ap}
 use mathlib.Core.Bool.{Bool, true, false}
 use native.Mathlib.Omega.{arith}
+use Rattle.std.specs.Prelude.{min}
+use Rattle.std.specs.Char.{is_ascii_digit}
+use Rattle.base.specs.Choose.{pick}
 use borrow.Author.Tests.{ltb-true}
 use Rattle.base.specs.Compare.{under, over, not_below}
 use Rattle.base.proofs.Choose.{pick_true, pick-false, pick_both}
 use Rattle.base.proofs.Compare.{under-no, over_yes, over_no, over_le, not_below-yes}
 use Rattle.lines.specs.Grammar.{is_digit}
 use Rattle.lines.specs.Numbering.{cap, digit_by}
+
+pub ascii-digit : (b : ℕ) → is_ascii_digit b ≡ is_digit b
+unfolding is_digit under pick
+ascii-digit b = grind arith
+
+pub cap_min : (n : ℕ) → min n 65536 ≡ cap n
+unfolding cap over pick
+cap_min n = grind arith
 
 pub cap-past : (n : ℕ) → 65536 < n → 65536 ≡ cap n
 unfolding cap

@@ -3,8 +3,10 @@ use Prim.Native.Nat.{ℕ}
 use mathlib.Core.Path.{◌≡◌, refl, ◌∙◌, ap}
 use Rattle.job.specs.Rows.{◌⨾◌}
 use Rattle.job.proofs.Rows.{both}
-use Rattle.job.specs.declared.Check.{Check}
-use Rattle.job.specs.declared.Check.TheVariants.{Accepted, Refused}
+use Rattle.std.specs.Prelude.{Result, Ok, Err}
+use Rattle.job.specs.Check.{Check, Accepted}
+use Rattle.job.specs.declared.Refusal.{Refusal}
+use Rattle.lines.specs.Answer.{go_on, check_of}
 use Rattle.lines.specs.Fitting.{check_fit}
 use Rattle.lines.specs.Numbering.{counted_all}
 use Rattle.lines.specs.Room.{room_row, check_counts, check_text}
@@ -14,10 +16,10 @@ use Rattle.lines.specs.declared.Tally.{Tally}
 use Rattle.lines.proofs.Saying.{complete}
 use Rattle.lines.proofs.Numbered.{sizes, numbers-check, numbers-tally}
 
-then_if : (c : Check) (t u : Tally) (room : ℕ) → (Accepted ≡ c → t ≡ u) → c ⨾ room_row room t ≡ c ⨾ room_row room u
+then_if : (r : Result Tally Refusal) (c : Check) (u : Tally) (room : ℕ) → check_of r ≡ c → (Accepted ≡ c → r ≡ Ok u) → go_on r (room_row room) ≡ c ⨾ room_row room u
 unfolding ◌⨾◌
-then_if Accepted t u room h = ap (room_row room) (h refl)
-then_if (Refused n p) t u room h = refl
+then_if (Ok t) c u room e h = let f = h e in let z : t ≡ u = cc in rw (← e) (ap (room_row room) z)
+then_if (Err refusal) c u room e h = rw (← e)
 
 fit_then : (c x : Check) → Accepted ≡ c → c ⨾ x ≡ x
 unfolding ◌⨾◌
@@ -30,12 +32,11 @@ room_same l room = refl
 pub text-check : (l : Lines) (room : ℕ) → check_text (text_of l) room ≡ check_lines l room
 unfolding check_text check_counts check_lines
 text-check l room =
-    fit_then (check_fit (text_of l)) ((counted_all (text_of l)).check ⨾ room_row room (counted_all (text_of l)).tally) (complete l)
-    ∙ ap (λ (c : Check). c ⨾ room_row room (counted_all (text_of l)).tally) (numbers-check l)
-    ∙ then_if (check_numbers l) (counted_all (text_of l)).tally (sizes l) room (numbers-tally l)
+    fit_then (check_fit (text_of l)) _ (complete l)
+    ∙ then_if (counted_all (text_of l)) (check_numbers l) (sizes l) room (numbers-check l) (numbers-tally l)
     ∙ ap (λ (c : Check). check_numbers l ⨾ c) (room_same l room)
 
 -- where it accepts, the tally is the job's
-pub text-tally : (l : Lines) (room : ℕ) → Accepted ≡ check_lines l room → (counted_all (text_of l)).tally ≡ sizes l
+pub text-tally : (l : Lines) (room : ℕ) → Accepted ≡ check_lines l room → counted_all (text_of l) ≡ Ok (sizes l)
 unfolding check_lines
 text-tally l room e = numbers-tally l (both (check_numbers l) (check_room l room) e).0

@@ -17,7 +17,7 @@ use Rattle.job.proofs.Rows.{pass, join, both, row-no, scan_none}
 use Rattle.job.specs.Job.{claim_of, Rule, body_count, ◌if◌, most_rules, most_literals, most_questions}
 use Rattle.job.specs.Encoding.{◌∈◌}
 use Rattle.job.specs.declared.Literal.{Literal}
-use Rattle.job.specs.declared.Check.TheVariants.{Accepted}
+use Rattle.job.specs.Check.{Accepted}
 use Rattle.lines.specs.Lines.{Lines, as_rule, typed, job_size}
 use Rattle.lines.specs.Checks.{check_first, check_rules, check_asks, check_room, check_numbers, check_lines, rule_in, bad_rule, ask_in, bad_ask, some_not_below}
 use Rattle.lines.specs.Laws.{InLimits}

@@ -10,7 +10,10 @@ use lib.ListN.{length, take, drop, length-append}
 use lib.Seq.{take_at, length-take-le}
 use Rattle.job.specs.Encoding.{half_bytes}
 use Rattle.writing.specs.Written.{wrote, Put}
-use Rattle.writing.proofs.Wrote.{put_put, put_size, put_as}
+use Rattle.writing.specs.Writes.{Writes, HasRoom}
+use Rattle.writing.specs.declared.writer.Writer.{Writer}
+use Rattle.writing.proofs.Wrote.{put_size}
+use Rattle.writing.proofs.Writing.{writes_as, writes-room, writes-writes}
 use Rattle.fields.proofs.Heading.{header-length}
 use Rattle.base.specs.Lists.{Within}
 use Rattle.lines.specs.Placing.{placed, record_at, body_at, header_by, job_bytes, Placeable}
@@ -63,42 +66,42 @@ module _ (t : Tally) (ys zs order : List ℕ) (e : order ≡ placed t.claims ys)
   all_of_it : length (job_bytes t ys zs) ≡ 36 + 4 * length order + length bodies + 2 * length zs
   all_of_it = sym (ap length whole) ∙ omega (arith, length-append (header_by t ++ records ++ bodies) asks, middle, flat-length (λ x. half_bytes x) 2 zs (λ x. refl))
 
-  module _ (out : List ℕ) (p : Placeable t ys zs (length out)) where
-    fits : 36 + 4 * length order + length bodies + 2 * length zs ≤ length out
-    fits = omega (arith, p.fits, all_of_it)
+  module _ (w : Writer) (p : Placeable t ys zs (length w.buf.now)) (z : w.at ≡ 0) where
+    fits : HasRoom w (36 + 4 * length order + length bodies + 2 * length zs)
+    fits = omega (arith, p.fits, all_of_it, z)
 
-    pub header-room : 36 ≤ length out
+    pub header-room : HasRoom w 36
     header-room = omega (arith, fits)
 
-    module _ (o₁ : List ℕ) (a : ℕ) (q₁ : Put out 0 (header_by t) o₁ a) where
-      size₁ : length o₁ ≡ length out
-      size₁ = put_size out 0 (header_by t) o₁ a (omega (arith, header_size t, fits)) q₁
+    module _ (w₁ : Writer) (q₁ : Writes w w₁ (header_by t)) where
+      header-fits : HasRoom w (length (header_by t))
+      header-fits = omega (arith, header_size t, fits)
 
-      pub records-room : a + 4 * length order ≤ length o₁
-      records-room = omega (arith, q₁.next, header_size t, size₁, fits)
+      pub records-room : HasRoom w₁ (4 * length order)
+      records-room = writes-room w w₁ _ header-fits q₁ _ (omega (arith, header_size t, fits))
 
-      module _ (o₂ : List ℕ) (b : ℕ) (q₂ : Put o₁ a records o₂ b) where
-        put₂ : Put out 0 (header_by t ++ records) o₂ b
-        put₂ = put_put out 0 (header_by t) o₁ a (omega (arith, header_size t, fits)) q₁ records o₂ b q₂
+      module _ (w₂ : Writer) (q₂ : Writes w₁ w₂ records) where
+        two : Writes w w₂ (header_by t ++ records)
+        two = writes-writes w w₁ _ header-fits q₁ w₂ records q₂
 
-        size₂ : length o₂ ≡ length out
-        size₂ = put_size out 0 (header_by t ++ records) o₂ b (omega (arith, front, fits)) put₂
+        two-fits : HasRoom w (length (header_by t ++ records))
+        two-fits = omega (arith, front, fits)
 
-        pub bodies-room : b + length bodies ≤ length o₂
-        bodies-room = omega (arith, put₂.next, front, size₂, fits)
+        pub bodies-room : HasRoom w₂ (length bodies)
+        bodies-room = writes-room w w₂ _ two-fits two _ (omega (arith, front, fits))
 
-        module _ (o₃ : List ℕ) (c : ℕ) (q₃ : Put o₂ b bodies o₃ c) where
-          put₃ : Put out 0 (header_by t ++ records ++ bodies) o₃ c
-          put₃ = put_put out 0 (header_by t ++ records) o₂ b (omega (arith, front, fits)) put₂ bodies o₃ c q₃
+        module _ (w₃ : Writer) (q₃ : Writes w₂ w₃ bodies) where
+          three : Writes w w₃ (header_by t ++ records ++ bodies)
+          three = writes-writes w w₂ _ two-fits two w₃ bodies q₃
 
-          size₃ : length o₃ ≡ length out
-          size₃ = put_size out 0 (header_by t ++ records ++ bodies) o₃ c (omega (arith, middle, fits)) put₃
+          three-fits : HasRoom w (length (header_by t ++ records ++ bodies))
+          three-fits = omega (arith, middle, fits)
 
-          pub asks-room : c + 2 * length zs ≤ length o₃
-          asks-room = omega (arith, put₃.next, middle, size₃, fits)
+          pub asks-room : HasRoom w₃ (2 * length zs)
+          asks-room = writes-room w w₃ _ three-fits three _ (omega (arith, middle, fits))
 
-          pub joined : (o₄ : List ℕ) (r : ℕ) → Put o₃ c asks o₄ r → Put out 0 (job_bytes t ys zs) o₄ r
-          joined o₄ r q₄ = put_as (put_put out 0 (header_by t ++ records ++ bodies) o₃ c (omega (arith, middle, fits)) put₃ asks o₄ r q₄) whole
+          pub joined : (w₄ : Writer) → Writes w₃ w₄ asks → Writes w w₄ (job_bytes t ys zs)
+          joined w₄ q₄ = writes_as (writes-writes w w₃ _ three-fits three w₄ asks q₄) whole
 
 pub front_length : (ns : List ℕ) (k : ℕ) → k ≤ length ns → k ≡ length (take k ns)
 front_length ns k h = sym (length-take-le k ns h)

@@ -11,10 +11,13 @@ use mathlib.Core.Bool.{Bool, true, false}
 use native.Mathlib.Omega.{arith}
 use lib.ListN.{length}
 use Rattle.base.specs.Choose.{pick}
+use Rattle.base.proofs.Choose.{pick-false}
 use Rattle.job.specs.Rows.{◌⨾◌, row}
 use Rattle.job.specs.Job.{body_count}
-use Rattle.job.specs.declared.Check.{Check}
-use Rattle.job.specs.declared.Check.TheVariants.{Accepted, Refused}
+use Rattle.std.specs.Prelude.{Ok, Err, Result}
+use Rattle.job.specs.Check.{Check, Accepted}
+use Rattle.job.specs.declared.Refusal.{Refusal}
+use Rattle.lines.specs.Answer.{check_of}
 use Rattle.job.specs.declared.Literal.{Literal}
 use Rattle.job.specs.declared.Literal.TheVariants.{Plain, Negated}
 use Rattle.job.specs.declared.Question.{Question}
@@ -22,7 +25,6 @@ use Rattle.job.proofs.Rows.{both, row-no}
 use Rattle.lines.specs.Lines.{RuleLine, as_rule}
 use Rattle.lines.specs.Numbering.{Item, counted_number, faulty_number, judged}
 use Rattle.lines.specs.declared.Tally.{Tally}
-use Rattle.lines.specs.declared.Counted.{Counted}
 use Rattle.lines.proofs.Along.{literal_item, rule_items, rules_items, asks_items}
 
 abbrev pub with_item : Tally → Item → Tally
@@ -39,31 +41,27 @@ abbrev pub counts : Tally → List Item → Tally
 counts t [] = t
 counts t (x ∷ xs) = counts (with_item t x) xs
 
-pick-row : (b : Bool) (line : ℕ) (t : Tally) (x : Counted) → (pick b (record { check = Refused 15 line; tally = t }) x).check ≡ row b 15 line ⨾ x.check
+picked-check : (b : Bool) (line : ℕ) (r : Result Tally Refusal) {c : Check} → check_of r ≡ c → check_of (pick b (Err (record { number = 15; place = line })) r) ≡ row b 15 line ⨾ c
 unfolding pick row ◌⨾◌
-pick-row true line t x = refl
-pick-row false line t x = refl
+picked-check true line r e = refl
+picked-check false line r e = e
 
-pick-tally : (b : Bool) (t : Tally) (x y : Counted) → b ≡ false → (pick b y x).tally ≡ x.tally
-unfolding pick
-pick-tally b t x y e = rw e
-
-pub judged-check : (xs : List Item) (t : Tally) → (judged t xs).check ≡ rows_of t xs
+pub judged-check : (xs : List Item) (t : Tally) → check_of (judged t xs) ≡ rows_of t xs
 unfolding judged
 judged-check [] t = refl
-judged-check (x ∷ xs) t = pick-row (faulty t x) x.line t (judged (with_item t x) xs) ∙ ap (λ (c : Check). row (faulty t x) 15 x.line ⨾ c) (judged-check xs (with_item t x))
+judged-check (x ∷ xs) t = picked-check (faulty t x) x.line (judged (with_item t x) xs) (judged-check xs (with_item t x))
 
-pub judged-tally : (xs : List Item) (t : Tally) → Accepted ≡ rows_of t xs → (judged t xs).tally ≡ counts t xs
+pub judged-tally : (xs : List Item) (t : Tally) → Accepted ≡ rows_of t xs → judged t xs ≡ Ok (counts t xs)
 unfolding judged
 judged-tally [] t e = refl
 judged-tally (x ∷ xs) t e =
     let p = both (row (faulty t x) 15 x.line) (rows_of (with_item t x) xs) e in
-    pick-tally (faulty t x) t (judged (with_item t x) xs) _ (row-no (faulty t x) 15 x.line p.0) ∙ judged-tally xs (with_item t x) p.1
+    pick-false (faulty t x) _ _ (row-no (faulty t x) 15 x.line p.0) ∙ judged-tally xs (with_item t x) p.1
 
 pub then-assoc : (x y z : Check) → (x ⨾ y) ⨾ z ≡ x ⨾ (y ⨾ z)
 unfolding ◌⨾◌
 then-assoc Accepted y z = refl
-then-assoc (Refused n p) y z = refl
+then-assoc (Err refusal) y z = refl
 
 pub rows_append : (xs ys : List Item) (t : Tally) → rows_of t (xs ++ ys) ≡ rows_of t xs ⨾ rows_of (counts t xs) ys
 unfolding ◌⨾◌

@@ -6,12 +6,14 @@
 --   num sl n                                the state behind the number n
 --   number-leads, behind                    a number, from where it may start; the word behind it
 use Prim.Native.Nat.{ℕ, zero, suc, ◌+◌, ◌*◌, ◌-◌, ◌/◌, ◌%◌, ◌<◌, ◌≤◌}
+use Rattle.std.specs.Prelude.{Some, None}
 use mathlib.Core.List.{List, [], ◌∷◌, ◌++◌, append_assoc}
 use mathlib.Core.Path.{◌≡◌, refl, sym, ◌∙◌, ap}
 use mathlib.Core.Bool.{Bool, true, false, ◌&&◌, not, true≢false}
 use native.Mathlib.Omega.{arith}
 use lib.Dec.{eqb}
 use borrow.Author.Tests.{ne_eqb, eqb-true}
+use Rattle.std.proofs.lemmas.Bool.{not-true}
 use Rattle.base.specs.Choose.{pick}
 use Rattle.base.proofs.Bools.{and_both}
 use Rattle.base.proofs.Choose.{pick_true, pick-false}
@@ -21,13 +23,11 @@ use Rattle.writing.specs.Decimal.{decimal, digit}
 use Rattle.writing.proofs.Decimal.{Size, small, large, size, decimal-small, decimal-large}
 use Rattle.lines.specs.Grammar.{is_digit, first, ended, more, any_line, body_next, step, run, is_bad, line_start}
 use Rattle.lines.specs.Fitting.{fits_from}
-use Rattle.lines.specs.Numbering.{Scan, digit_by, unless_digit, event_in, Item, item_of, items}
+use Rattle.lines.specs.Numbering.{Scan, digit_by, unless_digit, event_in, Item, item_of, items, Event}
 use Rattle.lines.specs.declared.Slot.{Slot}
 use Rattle.lines.specs.declared.Slot.TheVariants.{Head, Body}
 use Rattle.lines.specs.declared.State.{State}
 use Rattle.lines.specs.declared.State.TheVariants.{AnyLine, First, Zero, More, BodyNext}
-use Rattle.lines.specs.declared.Event.{Event}
-use Rattle.lines.specs.declared.Event.TheVariants.{Nothing, Number}
 
 abbrev pub at : State → ℕ → Scan
 at st n = record { state = st; number = n }
@@ -65,8 +65,8 @@ module _ {keep : ℕ → ℕ} where
 
 -- a word: no digit, no number ended, nothing bad, and no line begun
 abbrev is_nothing : Event → Bool
-is_nothing Nothing = true
-is_nothing (Number sl n) = false
+is_nothing None = true
+is_nothing (Some (sl, n)) = false
 
 abbrev silent : State → ℕ → Bool
 silent st b = not (is_digit b) && not (is_bad (step st b)) && is_nothing (event_in st 0 b)
@@ -76,12 +76,8 @@ quiet st [] = true
 quiet st (b ∷ bs) = silent st b && eqb (line_start st) 0 && quiet (step st b) bs
 
 no_item : (line : ℕ) (e : Event) → is_nothing e ≡ true → item_of line e ≡ []
-no_item line Nothing h = refl
-no_item line (Number sl n) h = absurd (true≢false (sym h))
-
-not-true : (b : Bool) → not b ≡ true → b ≡ false
-not-true true e = absurd (true≢false (sym e))
-not-true false e = refl
+no_item line None h = refl
+no_item line (Some (sl, n)) h = absurd (true≢false (sym h))
 
 digit_none : (keep : ℕ → ℕ) (n b : ℕ) → is_digit b ≡ false → digit_by keep n b ≡ 0
 unfolding digit_by
@@ -133,7 +129,7 @@ digit_more keep n d h = let v : 10 * n + (48 + d - 48) ≡ 10 * n + d = omega ar
 -- where a number may start
 pub record Begins (st : State) (sl : Slot) : Type 0 where
   pub step_first : (b : ℕ) → b < 58 → step st b ≡ first sl b
-  pub silent : (b : ℕ) → event_in st 0 b ≡ Nothing
+  pub silent : (b : ℕ) → event_in st 0 b ≡ None
 
 pub first-begins : (sl : Slot) → Begins (First sl) sl
 first-begins sl = record { step_first = λ b l. refl; silent = λ b. refl }
@@ -161,7 +157,7 @@ more_num : (sl : Slot) (d : ℕ) → d < 10 → step (More sl) (48 + d) ≡ More
 unfolding more
 more_num sl d l = pick_true _ _ _ (is_digit_lem d l)
 
-more_silent : (sl : Slot) (n d : ℕ) → d < 10 → event_in (More sl) n (48 + d) ≡ Nothing
+more_silent : (sl : Slot) (n d : ℕ) → d < 10 → event_in (More sl) n (48 + d) ≡ None
 unfolding unless_digit
 more_silent sl n d l = pick_true _ _ _ (is_digit_lem d l)
 
@@ -219,7 +215,7 @@ unfolding more
 num-ended sl zero b e = refl
 num-ended sl (suc n) b e = pick-false _ _ _ e
 
-num_event : (sl : Slot) (n v b : ℕ) → is_digit b ≡ false → event_in (num sl n) v b ≡ Number sl v
+num_event : (sl : Slot) (n v b : ℕ) → is_digit b ≡ false → event_in (num sl n) v b ≡ Some (sl, v)
 unfolding unless_digit
 num_event sl zero v b e = pick-false _ _ _ e
 num_event sl (suc n) v b e = pick-false _ _ _ e

@@ -5,7 +5,7 @@ use mathlib.Core.List.{List, [], ◌∷◌, ◌++◌, flat_map, map, append_asso
 use mathlib.Core.Path.{◌≡◌, refl, sym, ◌∙◌, ap}
 use lib.ListN.{length}
 use Rattle.job.specs.Encoding.{field_of}
-use Rattle.job.specs.declared.Check.TheVariants.{Accepted}
+use Rattle.job.specs.Check.{Accepted}
 use Rattle.job.specs.declared.Literal.{Literal}
 use Rattle.job.specs.declared.Literal.TheVariants.{Plain, Negated}
 use Rattle.job.specs.declared.Question.{Question}

@@ -3,6 +3,7 @@
 --   Noting ..          the notes of the first i bytes are written
 --   noting-start, -kept, -room, _more, _size, _end   none yet; the next number is kept; it has room; it is noted; the length; all
 use Prim.Native.Nat.{ℕ, ◌+◌, ◌<◌, ◌≤◌}
+use Rattle.std.specs.Prelude.{Some, None}
 use mathlib.Core.Path.{◌≡◌, refl, ◌∙◌, ap}
 use mathlib.Core.List.{List, [], ◌∷◌, ◌++◌, flat_map}
 use native.Mathlib.Numerals.{add-one}
@@ -14,13 +15,11 @@ use Rattle.writing.specs.Written.{Put}
 use Rattle.writing.proofs.Onward.{Onward, onward-start, onward_size, onward-room, onward_more, onward_end}
 use Rattle.lines.proofs.Capped.{digit-kept}
 use Rattle.lines.specs.Grammar.{line_start, is_digit}
-use Rattle.lines.specs.Numbering.{Scan, cap, begin, advance, unless_digit, event_in, event_at, Item, item_of, items}
+use Rattle.lines.specs.Numbering.{Scan, cap, begin, advance, unless_digit, event_in, event_at, Item, item_of, items, Event}
 use Rattle.lines.specs.Noting.{note_in, notes, notes_of, Kept}
 use Rattle.lines.specs.declared.Slot.{Slot}
 use Rattle.lines.specs.declared.State.{State}
 use Rattle.lines.specs.declared.State.TheVariants.{Bad, FirstLine, AnyLine, AskLine, Letter, First, Zero, More, BodyNext}
-use Rattle.lines.specs.declared.Event.{Event}
-use Rattle.lines.specs.declared.Event.TheVariants.{Nothing, Number}
 
 unfoldable pub notes_from : Scan → List ℕ → List ℕ
 notes_from sc [] = []
@@ -28,8 +27,8 @@ notes_from sc (b ∷ bs) = note_in (event_at sc b) ++ notes_from (advance cap sc
 
 notes_event : (line : ℕ) (e : Event) (xs : List Item) → notes (item_of line e ++ xs) ≡ note_in e ++ notes xs
 unfolding flat_map
-notes_event line Nothing xs = refl
-notes_event line (Number s n) xs = refl
+notes_event line None xs = refl
+notes_event line (Some (s, n)) xs = refl
 
 notes-from : (bs : List ℕ) (sc : Scan) (line : ℕ) → notes (items cap sc line bs) ≡ notes_from sc bs
 unfolding items notes_from flat_map
@@ -41,7 +40,7 @@ notes-from (b ∷ bs) sc line =
 -- an event has a number that is kept
 unless-kept : (s : Slot) (n b : ℕ) → n ≤ 65536 → Kept (unless_digit s n b)
 unfolding unless_digit
-unless-kept s n b h = pick_both Kept (is_digit b) Nothing (Number s n) (λ e. tt) (λ e. h)
+unless-kept s n b h = pick_both Kept (is_digit b) None (Some (s, n)) (λ e. tt) (λ e. h)
 
 event-kept : (st : State) (n b : ℕ) → n ≤ 65536 → Kept (event_in st n b)
 event-kept Bad n b h = tt

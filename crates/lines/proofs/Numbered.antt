@@ -15,8 +15,9 @@ use Rattle.base.proofs.Bools.{neither}
 use Rattle.base.proofs.Compare.{over_yes, over_no, over_le}
 use Rattle.job.specs.Rows.{◌⨾◌, row, scan}
 use Rattle.job.specs.Job.{claim_of, body_count, ◌if◌, most_claims, most_rules, most_literals, most_workers, most_questions}
-use Rattle.job.specs.declared.Check.{Check}
-use Rattle.job.specs.declared.Check.TheVariants.{Accepted, Refused}
+use Rattle.std.specs.Prelude.{Ok, Err}
+use Rattle.job.specs.Check.{Check, Accepted}
+use Rattle.lines.specs.Answer.{check_of}
 use Rattle.job.specs.declared.Literal.{Literal}
 use Rattle.job.specs.declared.Literal.TheVariants.{Plain, Negated}
 use Rattle.job.specs.declared.Question.{Question}
@@ -40,7 +41,7 @@ row_go a false n p q x y e f h = rw e (h refl)
 then-go : (x y z : Check) → (Accepted ≡ x → y ≡ z) → x ⨾ y ≡ x ⨾ z
 unfolding ◌⨾◌
 then-go Accepted y z h = h refl
-then-go (Refused n p) y z h = refl
+then-go (Err refusal) y z h = refl
 
 -- the rows of one line are one row
 rows-literal : (b c d : Bool) (line : ℕ) → row b 15 line ⨾ row (c || d) 15 line ≡ row (c || (b || d)) 15 line
@@ -238,12 +239,12 @@ lines-counted l =
     ∙ asks-counted same a w l.questions (1 + length l.rules) (0 + m) (0 + n) 0
     ∙ tally_eq (omega arith) (omega arith) (omega arith)
 
-pub numbers-check : (l : Lines) → (counted_all (text_of l)).check ≡ check_numbers l
+pub numbers-check : (l : Lines) → check_of (counted_all (text_of l)) ≡ check_numbers l
 unfolding counted_all
 numbers-check l = rw (text-items cap cap_add l) (judged-check (items_in cap l) no_tally ∙ numbers_rows l)
 
-pub numbers-tally : (l : Lines) → Accepted ≡ check_numbers l → (counted_all (text_of l)).tally ≡ sizes l
+pub numbers-tally : (l : Lines) → Accepted ≡ check_numbers l → counted_all (text_of l) ≡ Ok (sizes l)
 unfolding counted_all
 numbers-tally l e =
     rw (text-items cap cap_add l)
-    (judged-tally (items_in cap l) no_tally (e ∙ sym (numbers_rows l)) ∙ ap (counts no_tally) (items_uncapped l (lines_fit l e)) ∙ lines-counted l)
+    (judged-tally (items_in cap l) no_tally (e ∙ sym (numbers_rows l)) ∙ ap Ok (ap (counts no_tally) (items_uncapped l (lines_fit l e)) ∙ lines-counted l))

@@ -6,20 +6,22 @@
 --   past_one              there is one such line only
 --   past_back             and where there is one, row 15 refuses there
 use Prim.Native.Nat.{ℕ, zero, suc, ◌+◌, ◌-◌, ◌<◌, ◌≤◌}
-use mathlib.Core.List.{List, [], ◌∷◌, map}
+use mathlib.Core.List.{List, []}
 use mathlib.Core.Path.{◌≡◌, refl, sym, ◌∙◌, ap}
 use mathlib.Core.Logic.{◌⊎◌, inl, inr, ⊎_elim}
 use mathlib.Core.Bool.{Bool, true, false, ◌||◌, true≢false}
 use native.Mathlib.Omega.{arith}
 use lib.ListN.{length, get_or, take}
 use lib.Seq.{get_or-take, take-take}
+use Rattle.std.proofs.lemmas.List.{take-map, length-take}
 use Rattle.base.specs.Compare.{over, not_below}
 use Rattle.job.proofs.Rows.{both, join, row-no, scan_none, scan_all}
 use Rattle.job.specs.Rows.{◌⨾◌, row, scan}
 use Rattle.job.specs.Job.{Rule, body_count, ◌if◌, most_rules, most_literals, most_questions}
 use Rattle.job.specs.declared.Question.{Question}
-use Rattle.job.specs.declared.Check.{Check}
-use Rattle.job.specs.declared.Check.TheVariants.{Accepted, Refused}
+use Rattle.std.specs.Prelude.{Err}
+use Rattle.job.specs.Check.{Check, Accepted, Refused}
+use Rattle.lines.proofs.Refusals.{same-number, same-place}
 use Rattle.lines.specs.Lines.{Lines, as_rule, typed}
 use Rattle.lines.specs.Checks.{check_first, check_rules, check_asks, check_room, check_numbers, check_lines, rule_in, bad_rule, bad_ask, some_not_below}
 use Rattle.lines.specs.Laws.{InLimits, front, Past}
@@ -30,7 +32,7 @@ use Rattle.lines.proofs.Exactly.{accepted-within, rule-good, ask-good, first_goo
 part : (x later : Check) (n p : ℕ) → x ⨾ later ≡ Refused n p → (x ≡ Refused n p) ⊎ ((Accepted ≡ x) × (later ≡ Refused n p))
 unfolding ◌⨾◌
 part Accepted later n p e = inr (refl, e)
-part (Refused m q) later n p e = inl e
+part (Err refusal) later n p e = inl e
 
 not-both : (x : Check) (n p : ℕ) → Accepted ≡ x → x ≡ Refused n p → ⊥
 not-both x n p a e = let z : ◌≡◌ {A = ℕ} 0 1 = cc in absurd (omega arith)
@@ -42,7 +44,7 @@ record Held (b : Bool) (m q n p : ℕ) : Type 0 where
 
 row-held : (b : Bool) (m q n p : ℕ) → row b m q ≡ Refused n p → Held b m q n p
 unfolding row
-row-held true m q n p e = record { holds = refl; number = cc; place = cc }
+row-held true m q n p e = record { holds = refl; number = sym (same-number e); place = sym (same-place e) }
 row-held false m q n p e = absurd (not-both Accepted n p refl e)
 
 -- a scan that refuses
@@ -75,27 +77,16 @@ scan-stop bad (suc n) number place p e =
     (part (row (bad 0) number (place 0)) (scan (λ k. bad (suc k)) n number (λ k. place (suc k))) number p e)
 
 -- the first items of a list
-take-map : {A B : Type 0} (f : A → B) (n : ℕ) (xs : List A) → map f (take n xs) ≡ take n (map f xs)
-take-map f zero xs = refl
-take-map f (suc n) [] = refl
-take-map {B = B} f (suc n) (x ∷ xs) = ap (λ (ys : List B). f x ∷ ys) (take-map f n xs)
-
 taken-low : {A : Type 0} (n : ℕ) (xs : List A) (i : ℕ) → i < length (take n xs) → (i < n) × (i < length xs)
-taken-low zero xs i l = absurd (omega arith)
-taken-low (suc n) [] i l = absurd (omega arith)
-taken-low (suc n) (x ∷ xs) zero l = (omega arith, omega arith)
-taken-low (suc n) (x ∷ xs) (suc i) l = let t = taken-low n xs i (omega arith) in (omega (arith, t.0), omega (arith, t.1))
+taken-low n xs i l = let e = length-take n xs in (omega (arith, e), omega (arith, e))
 
 low-taken : {A : Type 0} (n : ℕ) (xs : List A) (i : ℕ) → i < n → i < length xs → i < length (take n xs)
-low-taken zero xs i l k = absurd (omega arith)
-low-taken (suc n) [] i l k = absurd (omega arith)
-low-taken (suc n) (x ∷ xs) zero l k = omega arith
-low-taken (suc n) (x ∷ xs) (suc i) l k = omega (arith, low-taken n xs i (omega arith) (omega arith))
+low-taken n xs i l k = omega (arith, length-take n xs)
 
 -- a line's test reads only the lines up to it
 rule_same : (l : Lines) (k i : ℕ) → i < k - 1 → bad_rule (front k l) i ≡ bad_rule l i
 rule_same l k i h =
-    let t : typed (front k l) ≡ take (k - 1) (typed l) = take-map as_rule (k - 1) l.rules in
+    let t : typed (front k l) ≡ take (k - 1) (typed l) = sym (take-map as_rule (k - 1) l.rules) in
     let b : take (i + 1) (typed (front k l)) ≡ take (i + 1) (typed l) = ap (λ (x : List Rule). take (i + 1) x) t ∙ take-take (i + 1) (k - 1) (typed l) (omega arith) in
     let r : rule_in (front k l) i ≡ rule_in l i = ap (λ (x : List Rule). get_or x i (0 if [])) t ∙ get_or-take (k - 1) (typed l) i (0 if []) h in
     let a = l.claims in
@@ -203,12 +194,12 @@ module _ (l : Lines) where
 
 is-15 : Check → Type 0
 is-15 Accepted = Unit {0}
-is-15 (Refused n p) = n ≡ 15
+is-15 (Err refusal) = refusal.number ≡ 15
 
 then-15 : (x y : Check) → is-15 x → is-15 y → is-15 (x ⨾ y)
 unfolding ◌⨾◌ is-15
 then-15 Accepted y a b = b
-then-15 (Refused n p) y a b = a
+then-15 (Err refusal) y a b = a
 
 row-15 : (b : Bool) (p : ℕ) → is-15 (row b 15 p)
 unfolding row is-15
@@ -229,10 +220,10 @@ numbers-15 l =
 answer-past : (l : Lines) (k : ℕ) → Past l k → (c : Check) → check_numbers l ≡ c → is-15 c → c ≡ Refused 15 k
 unfolding is-15
 answer-past l k b Accepted e n = absurd (b.here (numbers-accepted l k (sym e)))
-answer-past l k b (Refused m p) e n =
-    let f : check_numbers l ≡ Refused 15 p = e ∙ ap (λ (x : ℕ). Refused x p) n in
-    let z : p ≡ k = past_one l p k (numbers-past l p f) b in
-    ap (λ (x : ℕ). Refused x p) n ∙ ap (Refused 15) z
+answer-past l k b (Err refusal) e n =
+    let f : check_numbers l ≡ Refused 15 refusal.place = e ∙ ap (λ (x : ℕ). Refused x refusal.place) n in
+    let z : refusal.place ≡ k = past_one l refusal.place k (numbers-past l refusal.place f) b in
+    ap (λ (x : ℕ). Refused x refusal.place) n ∙ ap (Refused 15) z
 
 pub past_back : (l : Lines) (room k : ℕ) → Past l k → check_lines l room ≡ Refused 15 k
 unfolding check_lines ◌⨾◌

@@ -17,7 +17,7 @@ use lib.ListN.{length, drop, drop_of_length-le}
 use lib.Seq.{drop-cons}
 use Rattle.base.proofs.Choose.{pick_both}
 use Rattle.job.specs.Rows.{row}
-use Rattle.job.specs.declared.Check.TheVariants.{Accepted, Refused}
+use Rattle.job.specs.Check.{Accepted, Refused}
 use Rattle.job.specs.declared.Literal.TheVariants.{Plain, Negated}
 use Rattle.job.specs.declared.Question.{Question}
 use Rattle.job.proofs.Rows.{both, row-no}

@@ -12,29 +12,27 @@ use lib.Seq.{drop-cons}
 use Rattle.base.proofs.Bools.{neither}
 use Rattle.base.proofs.Choose.{pick_true, pick-false, pick_both}
 use Rattle.base.proofs.Compare.{over_le}
-use Rattle.job.specs.declared.Check.TheVariants.{Accepted, Refused}
+use Rattle.std.specs.Prelude.{Result, Ok, Err, Some, None}
+use Rattle.job.specs.declared.Refusal.{Refusal}
 use Rattle.lines.specs.Grammar.{step, line_start}
-use Rattle.lines.specs.Numbering.{Scan, cap, digit_by, advance, event_at, Item, item_of, items, items_of, counted_with, counted_number, faulty_with, faulty_number, judged, counted_all, no_tally, Small}
+use Rattle.lines.specs.Numbering.{Scan, cap, digit_by, advance, event_at, Item, item_of, items, items_of, counted_with, counted_number, faulty_with, faulty_number, judged, counted_all, no_tally, Small, Event}
 use Rattle.lines.specs.declared.State.{State}
 use Rattle.lines.proofs.Leads.{at as scanned}
 use Rattle.lines.specs.declared.Slot.{Slot}
 use Rattle.lines.specs.declared.Slot.TheVariants.{ClaimCount, WorkerCount, Head, Body, NotBody, Asker, Asked}
-use Rattle.lines.specs.declared.Event.{Event}
-use Rattle.lines.specs.declared.Event.TheVariants.{Nothing, Number}
 use Rattle.lines.specs.declared.Tally.{Tally}
-use Rattle.lines.specs.declared.Counted.{Counted}
 
 -- the numbers of the bytes left, judged
-abbrev pub counted_from : Scan → Tally → ℕ → List ℕ → Counted
+abbrev pub counted_from : Scan → Tally → ℕ → List ℕ → Result Tally Refusal
 counted_from sc t line bs = judged t (items cap sc line bs)
 
 -- one byte more, which ends the event e
-judged_event : (t : Tally) (line : ℕ) (e : Event) (xs : List Item) → judged t (item_of line e ++ xs) ≡ pick (faulty_with (counted_with t e) e) (record { check = Refused 15 line; tally = t }) (judged (counted_with t e) xs)
+judged_event : (t : Tally) (line : ℕ) (e : Event) (xs : List Item) → judged t (item_of line e ++ xs) ≡ pick (faulty_with (counted_with t e) e) (Err (record { number = 15; place = line })) (judged (counted_with t e) xs)
 unfolding judged
-judged_event t line Nothing xs = sym (pick-false false (record { check = Refused 15 line; tally = t }) (judged t xs) refl)
-judged_event t line (Number slot n) xs = refl
+judged_event t line None xs = sym (pick-false false (Err (record { number = 15; place = line })) (judged t xs) refl)
+judged_event t line (Some (slot, n)) xs = refl
 
-from_step : (sc : Scan) (t : Tally) (line b : ℕ) (bs : List ℕ) → counted_from sc t line (b ∷ bs) ≡ pick (faulty_with (counted_with t (event_at sc b)) (event_at sc b)) (record { check = Refused 15 (line + line_start sc.state); tally = t }) (counted_from (advance cap sc b) (counted_with t (event_at sc b)) (line + line_start sc.state) bs)
+from_step : (sc : Scan) (t : Tally) (line b : ℕ) (bs : List ℕ) → counted_from sc t line (b ∷ bs) ≡ pick (faulty_with (counted_with t (event_at sc b)) (event_at sc b)) (Err (record { number = 15; place = line + line_start sc.state })) (counted_from (advance cap sc b) (counted_with t (event_at sc b)) (line + line_start sc.state) bs)
 unfolding items
 from_step sc t line b bs = judged_event t (line + line_start sc.state) (event_at sc b) (items cap (advance cap sc b) (line + line_start sc.state) bs)
 
@@ -44,12 +42,12 @@ module _ (sc : Scan) (t : Tally) (line i : ℕ) (s : List ℕ) (e : Event) (u : 
       let g : faulty_with (counted_with t (event_at sc (get_or s i 0))) (event_at sc (get_or s i 0)) ≡ false = rw (q, p) at f in
       rw (a, q, p, l, add-one i, drop-cons s i 0 h) (sym (from_step sc t line (get_or s i 0) (drop (suc i) s) ∙ pick-false _ _ _ g))
 
-  pub counted_stop : (k : ℕ) → i < length s → e ≡ event_at sc (get_or s i 0) → u ≡ counted_with t e → faulty_with u e ≡ true → k ≡ line_start sc.state → ◌≡◌ {A = Counted} (record { check = Refused 15 (line + k); tally = t }) (counted_from sc t line (drop i s))
+  pub counted_stop : (k : ℕ) → i < length s → e ≡ event_at sc (get_or s i 0) → u ≡ counted_with t e → faulty_with u e ≡ true → k ≡ line_start sc.state → Err (record { number = 15; place = line + k }) ≡ counted_from sc t line (drop i s)
   counted_stop k h p q f l =
       let g : faulty_with (counted_with t (event_at sc (get_or s i 0))) (event_at sc (get_or s i 0)) ≡ true = rw (q, p) at f in
       rw (l, drop-cons s i 0 h) (sym (from_step sc t line (get_or s i 0) (drop (suc i) s) ∙ pick_true _ _ _ g))
 
-pub counted_end : (sc : Scan) (t : Tally) (line i : ℕ) (s : List ℕ) → length s ≤ i → ◌≡◌ {A = Counted} (record { check = Accepted; tally = t }) (counted_from sc t line (drop i s))
+pub counted_end : (sc : Scan) (t : Tally) (line i : ℕ) (s : List ℕ) → length s ≤ i → Ok t ≡ counted_from sc t line (drop i s)
 unfolding items judged
 counted_end sc t line i s h = rw (drop_of_length-le s h)
 
@@ -63,23 +61,27 @@ small-number t Asker n h f = h
 small-number t Asked n h f = let l : t.questions + 1 ≤ 1024 = over_le _ _ (neither (over (t.questions + 1) 1024) (not_below n t.claims) f).0 in omega arith
 
 pub small-next : (t : Tally) (e : Event) (u : Tally) → u ≡ counted_with t e → Small t → faulty_with u e ≡ false → Small u
-small-next t Nothing u q h f = rw q h
-small-next t (Number slot n) u q h f = rw q (small-number t slot n h (rw q at f))
+small-next t None u q h f = rw q h
+small-next t (Some (slot, n)) u q h f = rw q (small-number t slot n h (rw q at f))
 
--- whatever the answer, the tally is small
-judged-small : (xs : List Item) (t : Tally) → Small t → Small (judged t xs).tally
+all-zero : {a w m n q : ℕ} → a ≡ 0 → w ≡ 0 → m ≡ 0 → n ≡ 0 → q ≡ 0 → ◌≡◌ {A = Tally} (record { claims = a; workers = w; rules = m; literals = n; questions = q }) no_tally
+all-zero a b c d e = cc
+
+pub none-counted : (t : Tally) → (t.claims ≡ 0) × ((t.workers ≡ 0) × ((t.rules ≡ 0) × ((t.literals ≡ 0) × (t.questions ≡ 0)))) → t ≡ no_tally
+none-counted t d = all-zero d.0 d.1.0 d.1.1.0 d.1.1.1.0 d.1.1.1.1
+
+-- what is counted of a text without a fault is small
+judged-small : (xs : List Item) (t u : Tally) → Small t → judged t xs ≡ Ok u → Small u
 unfolding judged
-judged-small [] t h = h
-judged-small (x ∷ xs) t h =
-    pick_both (λ (y : Counted). Small y.tally) (faulty_number (counted_number t x.slot x.value) x.slot x.value) _ _ (λ e. h)
-    (λ e. judged-small xs (counted_number t x.slot x.value) (small-number t x.slot x.value h e))
+judged-small [] t u h e = let z : t ≡ u = cc in rw (← z) h
+judged-small (x ∷ xs) t u h e =
+    pick_both (λ (y : Result Tally Refusal). y ≡ Ok u → Small u) (faulty_number (counted_number t x.slot x.value) x.slot x.value) _ _
+    (λ f q. let z : ◌≡◌ {A = ℕ} 0 1 = cc in absurd (omega arith))
+    (λ f q. judged-small xs (counted_number t x.slot x.value) u (small-number t x.slot x.value h f) q) e
 
-pub all_small : (s : List ℕ) → Small (counted_all s).tally
+pub all_small : (s : List ℕ) (u : Tally) → counted_all s ≡ Ok u → Small u
 unfolding counted_all
-all_small s = judged-small (items_of cap s) no_tally (omega arith)
-
-pub small_at : (s : List ℕ) (u : Tally) → u ≡ (counted_all s).tally → Small u
-small_at s u e = rw e (all_small s)
+all_small s u e = judged-small (items_of cap s) no_tally u (omega arith) e
 
 -- the state and the number behind one byte more
 pub scanned-next : (st st' : State) (n n' b : ℕ) → st' ≡ step st b → n' ≡ digit_by cap n b → scanned st' n' ≡ advance cap (scanned st n) b

@@ -8,8 +8,8 @@ use native.Mathlib.Omega.{arith}
 use lib.ListN.{length}
 use Rattle.job.specs.Checks.{check_job}
 use Rattle.job.specs.Encoding.{encode, Valid}
-use Rattle.job.specs.declared.Check.{Check}
-use Rattle.job.specs.declared.Check.TheVariants.{Accepted, Refused}
+use Rattle.std.specs.Prelude.{Ok}
+use Rattle.job.specs.Check.{Check, Accepted, Refused}
 use Rattle.job.proofs.Encoding.{reading}
 use Rattle.job.proofs.Rows.{both}
 use Rattle.semantics.specs.Model.{program, program_of}
@@ -71,7 +71,7 @@ module _ (s : List ℕ) (room : ℕ) (r : Check) (a : r ≡ check_text s room) w
       (w, omega (arith, q.1, n), omega (arith, q.2, n))
 
   -- a text that every row accepts
-  pub readable : (t : Tally) → r ≡ Accepted → t ≡ (counted_all s).tally → Readable s t room
+  pub readable : (t : Tally) → r ≡ Accepted → counted_all s ≡ Ok t → Readable s t room
   unfolding check_text
   readable t ok c =
       let l = sound s (both (check_fit s) _ (sym ok ∙ a)).0 in
@@ -154,5 +154,5 @@ module _ (s out out' : List ℕ) (r : Check) (n : ℕ) (a : r ≡ check_text s (
         worked = worked;
       }
 
-  pub length_most : Readable s (counted_all s).tally (length out) → n ≤ length out'
-  length_most q = put-within out (encode (job_from q.lines)) out' n (sized q.lines (length out) q.accepted) (puts q.lines q.says)
+  pub length_most : (t : Tally) → Readable s t (length out) → n ≤ length out'
+  length_most t q = put-within out (encode (job_from q.lines)) out' n (sized q.lines (length out) q.accepted) (puts q.lines q.says)

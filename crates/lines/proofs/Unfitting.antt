@@ -15,8 +15,9 @@ use Rattle.base.specs.Choose.{pick}
 use Rattle.base.specs.Compare.{under}
 use Rattle.base.proofs.Choose.{pick_both}
 use Rattle.job.specs.Rows.{◌⨾◌, row}
-use Rattle.job.specs.declared.Check.{Check}
-use Rattle.job.specs.declared.Check.TheVariants.{Accepted, Refused}
+use Rattle.std.specs.Prelude.{Err}
+use Rattle.job.specs.Check.{Check, Accepted, Refused}
+use Rattle.lines.proofs.Refusals.{same-number, same-place}
 use Rattle.job.specs.declared.Question.{Question}
 use Rattle.job.proofs.Rows.{pass}
 use Rattle.lines.specs.Lines.{Lines, text_of, line_count}
@@ -98,9 +99,7 @@ refused-here :
     {st : State} {line : ℕ} {bs : List ℕ} {n k j : ℕ} → Refused 14 j ≡ Refused n k → j ≡ line + line_start st
     → Refusal st line bs n k
 refused-here {st} {line} {bs} {n} {k} {j} e q =
-    let u : j ≡ k = cc in
-    let v : n ≡ 14 = cc in
-    record { number = v; least = omega arith; place = here (sym u ∙ q) }
+    let u = same-place e in record { number = sym (same-number e); least = omega (arith, u); place = here (sym u ∙ q) }
 
 end_refusal : (st : State) (line n k : ℕ) → (is_start st ≡ true → line ≡ 0) → at_end st line ≡ Refused n k → Refusal st line [] n k
 end_refusal Bad line n k h e = refused-here e (omega arith)
@@ -177,9 +176,7 @@ front_less s n k e l rest q =
 
 front_count : (part : List ℕ) (l : Lines) (k : ℕ) → part ≡ text_of l → fits_from FirstLine 0 (part ++ (0 ∷ [])) ≡ Refused 14 k → k ≡ line_count l + 1
 front_count part l k q s =
-    let e : Refused 14 k ≡ Refused 14 (line_count l + 1) =
-    sym s ∙ ap (λ (x : List ℕ). fits_from FirstLine 0 (x ++ (0 ∷ []))) q ∙ text-fits l (0 ∷ []) ∙ end-stops l.questions (line_count l) in
-    cc
+    same-place (sym s ∙ ap (λ (x : List ℕ). fits_from FirstLine 0 (x ++ (0 ∷ []))) q ∙ text-fits l (0 ∷ []) ∙ end-stops l.questions (line_count l))
 
 before-line : (s : List ℕ) (k : ℕ) → Where FirstLine 0 s k → (k ≡ 1) ⊎ ((l : Lines) × (rest : List ℕ) × (s ≡ text_of l ++ rest) × (k ≡ line_count l + 1))
 unfolding check_fit
@@ -211,7 +208,7 @@ unfit_one s j k u v = omega (arith, line_before s j k u v, line_before s k j v u
 
 fit-answer : (s : List ℕ) (c : Check) → check_fit s ≡ c → ((l : Lines) × (s ≡ text_of l)) ⊎ ((k : ℕ) × (check_fit s ≡ Refused 14 k) × Unfit s k)
 fit-answer s Accepted e = inl (sound s (sym e))
-fit-answer s (Refused n k) e = let u = unfit_at s n k e in inr (k, e ∙ ap (λ (m : ℕ). Refused m k) u.0, u.1)
+fit-answer s (Err r) e = let k = r.place in let u = unfit_at s r.number k e in inr (k, e ∙ ap (λ (m : ℕ). Refused m k) u.0, u.1)
 
 pub fit_or-unfit : (s : List ℕ) → ((l : Lines) × (s ≡ text_of l)) ⊎ ((k : ℕ) × (check_fit s ≡ Refused 14 k) × Unfit s k)
 fit_or-unfit s = fit-answer s (check_fit s) refl

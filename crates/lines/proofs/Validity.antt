@@ -25,7 +25,7 @@ use Rattle.job.specs.Job.{claim_of, Rule, body_count, ◌if◌, most_claims, mos
 use Rattle.job.specs.Encoding.{Valid, encode, ◌∈◌}
 use Rattle.job.specs.declared.Literal.{Literal}
 use Rattle.job.specs.declared.Question.{Question}
-use Rattle.job.specs.declared.Check.TheVariants.{Accepted}
+use Rattle.job.specs.Check.{Accepted}
 use Rattle.lines.specs.Lines.{RuleLine, Lines, as_rule, typed, job_from}
 use Rattle.lines.specs.Checks.{check_first, check_rules, check_asks, check_numbers, rule_in, bad_rule, ask_in, bad_ask, some_not_below}
 use Rattle.lines.proofs.Sorted.{Below, sorted-length, sorted-bodies, sorted-rise, sorted_in}

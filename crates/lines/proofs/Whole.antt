@@ -18,7 +18,7 @@ use Rattle.job.specs.Encoding.{half_bytes, header_bytes, rule_bytes, body_bytes,
 use Rattle.job.specs.declared.Literal.{Literal}
 use Rattle.job.specs.declared.Literal.TheVariants.{Plain, Negated}
 use Rattle.job.specs.declared.Question.{Question}
-use Rattle.job.specs.declared.Check.TheVariants.{Accepted}
+use Rattle.job.specs.Check.{Accepted}
 use Rattle.job.proofs.Rows.{both, row-no}
 use Rattle.job.proofs.Fields.{encode-length}
 use Rattle.lines.specs.Lines.{RuleLine, Lines, as_rule, typed, text_of, job_from, job_size, sorted}
@@ -151,7 +151,7 @@ module _ (l : Lines) (room : ℕ) (a : Accepted ≡ check_lines l room) where
 
 module _ (s : List ℕ) (t : Tally) (room : ℕ) (r : Readable s t room) where
   counts_are : t ≡ sizes r.lines
-  counts_are = r.counts ∙ ap (λ (x : List ℕ). (counted_all x).tally) r.says ∙ text-tally r.lines room r.accepted
+  counts_are = let e = sym r.counts ∙ ap counted_all r.says ∙ text-tally r.lines room r.accepted in cc
 
   pub readable-few : length (notes_of s) ≤ most_notes
   readable-few = rw r.says (notes-few r.lines room r.accepted)

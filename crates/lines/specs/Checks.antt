@@ -5,8 +5,8 @@ use Rattle.job.specs.Rows.{◌⨾◌, row, scan}
 use Rattle.job.specs.Job.{claim_of, Rule, body_count, ◌if◌, most_claims, most_rules, most_literals, most_workers, most_questions}
 use Rattle.job.specs.declared.Literal.{Literal}
 use Rattle.job.specs.declared.Question.{Question}
-use Rattle.job.specs.declared.Check.{Check}
-use Rattle.job.specs.declared.Check.TheVariants.{Accepted}
+use Rattle.job.specs.Check.{Check}
+use Rattle.job.specs.Check.{Accepted}
 use Rattle.lines.specs.Lines.{Lines, typed, job_size}
 
 -- first line | 15 | a count past its limit, or T 0 | 1

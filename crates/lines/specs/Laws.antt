@@ -13,8 +13,8 @@ use Rattle.job.specs.Format.{job_of}
 use Rattle.job.specs.Encoding.{encode, Valid, Rising, ◌∈◌}
 use Rattle.job.specs.declared.Literal.{Literal}
 use Rattle.job.specs.declared.Question.{Question}
-use Rattle.job.specs.declared.Check.{Check}
-use Rattle.job.specs.declared.Check.TheVariants.{Accepted, Refused}
+use Rattle.job.specs.Check.{Check}
+use Rattle.job.specs.Check.{Accepted, Refused}
 use Rattle.semantics.specs.Model.{program, program_of}
 use Rattle.lines.specs.Checks.{check_lines}
 use Rattle.lines.specs.Worked.{Worked}

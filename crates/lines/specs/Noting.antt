@@ -5,17 +5,15 @@
 --   most_rule_notes, most_notes   how many notes the rules of a job have at most, and all of it
 --   Kept e              a number is at most 65,536
 --   rule_notes r, ask_notes q   those of a rule's line and of a question's
-use Rattle.std.specs.Prelude.{ℕ, ◌+◌, ◌*◌, ◌≤◌}
+use Rattle.std.specs.Prelude.{ℕ, ◌+◌, ◌*◌, ◌≤◌, Some, None}
 use mathlib.Core.List.{List, [], ◌∷◌, flat_map, map}
 use Rattle.job.specs.Encoding.{field_of}
 use Rattle.job.specs.Job.{most_rules, most_literals, most_questions}
 use Rattle.job.specs.declared.Question.{Question}
 use Rattle.lines.specs.Lines.{RuleLine}
-use Rattle.lines.specs.Numbering.{cap, Item, items_of}
+use Rattle.lines.specs.Numbering.{cap, Item, items_of, Event}
 use Rattle.lines.specs.declared.Slot.{Slot}
 use Rattle.lines.specs.declared.Slot.TheVariants.{ClaimCount, WorkerCount, Head, Body, NotBody, Asker, Asked}
-use Rattle.lines.specs.declared.Event.{Event}
-use Rattle.lines.specs.declared.Event.TheVariants.{Nothing, Number}
 
 abbrev pub head_mark : ℕ
 head_mark = 65536
@@ -30,12 +28,12 @@ note_of Asker n = n ∷ []
 note_of Asked n = n ∷ []
 
 abbrev pub note_in : Event → List ℕ
-note_in Nothing = []
-note_in (Number slot n) = note_of slot n
+note_in None = []
+note_in (Some (slot, n)) = note_of slot n
 
 abbrev pub Kept : Event → Type 0
-Kept Nothing = Unit {0}
-Kept (Number slot n) = n ≤ 65536
+Kept None = Unit {0}
+Kept (Some (slot, n)) = n ≤ 65536
 
 abbrev pub notes : List Item → List ℕ
 notes xs = flat_map (λ x. note_of x.slot x.value) xs

@@ -9,22 +9,19 @@
 --   items, items_of     the numbers of the bytes left; of a whole text
 --   counted_with t e    the tally with a number more
 --   faulty_with t e     whether that number, or the tally that has it, is out of range
---   judged t xs         the numbers in turn, up to the first fault
+--   judged t xs         the numbers in turn, up to the first fault: the tally, or the refusal
 --   Small t             what the tally of a text without a fault has
-use Rattle.std.specs.Prelude.{ℕ, ◌+◌, ◌*◌, ◌-◌, ◌≤◌, List, [], ◌∷◌, ◌++◌, Bool, false, ◌||◌}
+use Rattle.std.specs.Prelude.{ℕ, ◌+◌, ◌*◌, ◌-◌, ◌≤◌, List, [], ◌∷◌, ◌++◌, Bool, false, ◌||◌, Result, Ok, Err, Option, Some, None}
 use Rattle.base.specs.Choose.{pick}
 use Rattle.base.specs.Compare.{under, over, not_below}
 use Rattle.job.specs.Job.{most_claims, most_rules, most_literals, most_workers, most_questions}
-use Rattle.job.specs.declared.Check.TheVariants.{Accepted, Refused}
+use Rattle.job.specs.declared.Refusal.{Refusal}
 use Rattle.lines.specs.Grammar.{is_digit, step, line_start}
 use Rattle.lines.specs.declared.Slot.{Slot}
 use Rattle.lines.specs.declared.Slot.TheVariants.{ClaimCount, WorkerCount, Head, Body, NotBody, Asker, Asked}
 use Rattle.lines.specs.declared.State.{State}
 use Rattle.lines.specs.declared.State.TheVariants.{Bad, FirstLine, AnyLine, AskLine, Letter, First, Zero, More, BodyNext}
-use Rattle.lines.specs.declared.Event.{Event}
-use Rattle.lines.specs.declared.Event.TheVariants.{Nothing, Number}
 use Rattle.lines.specs.declared.Tally.{Tally}
-use Rattle.lines.specs.declared.Counted.{Counted}
 
 unfoldable pub cap : ℕ → ℕ
 cap n = pick (over n 65536) 65536 n
@@ -43,19 +40,23 @@ begin = record { state = FirstLine; number = 0 }
 abbrev pub advance : (ℕ → ℕ) → Scan → ℕ → Scan
 advance keep sc b = record { state = step sc.state b; number = digit_by keep sc.number b }
 
+-- the type `Event`, since antt has no name for an alias: a number that a byte ends, with its value
+abbrev pub Event : Type 0
+Event = Option (Slot × ℕ)
+
 unfoldable pub unless_digit : Slot → ℕ → ℕ → Event
-unless_digit slot n b = pick (is_digit b) Nothing (Number slot n)
+unless_digit slot n b = pick (is_digit b) None (Some (slot, n))
 
 abbrev pub event_in : State → ℕ → ℕ → Event
-event_in Bad n b = Nothing
-event_in FirstLine n b = Nothing
-event_in AnyLine n b = Nothing
-event_in AskLine n b = Nothing
-event_in (Letter w k) n b = Nothing
-event_in (First slot) n b = Nothing
+event_in Bad n b = None
+event_in FirstLine n b = None
+event_in AnyLine n b = None
+event_in AskLine n b = None
+event_in (Letter w k) n b = None
+event_in (First slot) n b = None
 event_in (Zero slot) n b = unless_digit slot n b
 event_in (More slot) n b = unless_digit slot n b
-event_in BodyNext n b = Nothing
+event_in BodyNext n b = None
 
 abbrev pub event_at : Scan → ℕ → Event
 event_at sc b = event_in sc.state sc.number b
@@ -66,8 +67,8 @@ pub record Item : Type 0 where
   pub value : ℕ
 
 abbrev pub item_of : ℕ → Event → List Item
-item_of line Nothing = []
-item_of line (Number slot n) = record { line = line; slot = slot; value = n } ∷ []
+item_of line None = []
+item_of line (Some (slot, n)) = record { line = line; slot = slot; value = n } ∷ []
 
 -- of the bytes left, `line` lines being begun before them
 unfoldable pub items : (ℕ → ℕ) → Scan → ℕ → List ℕ → List Item
@@ -91,8 +92,8 @@ counted_number t Asker n = t
 counted_number t Asked n = record { claims = t.claims; workers = t.workers; rules = t.rules; literals = t.literals; questions = t.questions + 1 }
 
 abbrev pub counted_with : Tally → Event → Tally
-counted_with t Nothing = t
-counted_with t (Number slot n) = counted_number t slot n
+counted_with t None = t
+counted_with t (Some (slot, n)) = counted_number t slot n
 
 abbrev pub faulty_number : Tally → Slot → ℕ → Bool
 faulty_number t ClaimCount n = over n most_claims
@@ -104,17 +105,17 @@ faulty_number t Asker n = not_below n t.workers
 faulty_number t Asked n = over t.questions most_questions || not_below n t.claims
 
 abbrev pub faulty_with : Tally → Event → Bool
-faulty_with t Nothing = false
-faulty_with t (Number slot n) = faulty_number t slot n
+faulty_with t None = false
+faulty_with t (Some (slot, n)) = faulty_number t slot n
 
-unfoldable pub judged : Tally → List Item → Counted
-judged t [] = record { check = Accepted; tally = t }
+unfoldable pub judged : Tally → List Item → Result Tally Refusal
+judged t [] = Ok t
 judged t (x ∷ xs) =
     pick (faulty_number (counted_number t x.slot x.value) x.slot x.value)
-    (record { check = Refused 15 x.line; tally = t })
+    (Err (record { number = 15; place = x.line }))
     (judged (counted_number t x.slot x.value) xs)
 
-unfoldable pub counted_all : List ℕ → Counted
+unfoldable pub counted_all : List ℕ → Result Tally Refusal
 counted_all s = judged no_tally (items_of cap s)
 
 pub record Small (t : Tally) : Type 0 where

@@ -6,7 +6,6 @@ ghost use Rattle.lines.specs.Grammar.{either as either_of, ended as ended_of, mo
 ghost use Rattle.lines.specs.Numbering.{cap, digit_by, unless_digit, event_in};
 
 use crate::{Event, Slot, State, Word};
-use base::wide;
 
 // Where a number past it is kept: past every limit.
 const KEPT: usize = 65536;
@@ -14,49 +13,30 @@ const KEPT: usize = 65536;
 pub fn is_digit(b: u8) -> bool
     ensures { result ≡ is_digit b }
 {
-    if b < 48 {
-        return false;
-    }
-    b < 58
+    b.is_ascii_digit()
 }
 
-fn nth(s: &[u8], k: usize) -> u8
-    ensures { result ≡ get_or s.now k 0 }
+// How a word is typed.
+fn letters(word: Word) -> &'static [u8]
+    ensures value { result.now ≡ letters word }
+    ensures some { 0 < length result.now }
 {
-    if k < s.len() {
-        return s[k];
+    match word {
+        Word::ClaimsWord => b"claims ",
+        Word::WorkersWord => b" workers ",
+        Word::IfWord => b" if ",
+        Word::NotWord => b"not ",
+        Word::AskWord => b"ask ",
+        Word::StopWord => b".\n",
+        Word::CommaWord => b", ",
     }
-    0
 }
 
 // Letter k of a word; 0 past its end.
 fn letter(word: Word, k: usize) -> u8
     ensures { result ≡ get_or (letters word) k 0 }
 {
-    match word {
-        Word::ClaimsWord => nth(b"claims ", k),
-        Word::WorkersWord => nth(b" workers ", k),
-        Word::IfWord => nth(b" if ", k),
-        Word::NotWord => nth(b"not ", k),
-        Word::AskWord => nth(b"ask ", k),
-        Word::StopWord => nth(b".\n", k),
-        Word::CommaWord => nth(b", ", k),
-    }
-}
-
-// The last letter's place in a word.
-fn last(word: Word) -> usize
-    ensures { (result + 1 ≡ length (letters word)) × (result < 9) }
-{
-    match word {
-        Word::ClaimsWord => 6,
-        Word::WorkersWord => 8,
-        Word::IfWord => 3,
-        Word::NotWord => 3,
-        Word::AskWord => 3,
-        Word::StopWord => 1,
-        Word::CommaWord => 1,
-    }
+    letters(word).get(k).copied().unwrap_or(0)
 }
 
 // The state behind a whole word.
@@ -66,11 +46,10 @@ fn after(word: Word) -> State
     match word {
         Word::ClaimsWord => State::First(Slot::ClaimCount),
         Word::WorkersWord => State::First(Slot::WorkerCount),
-        Word::IfWord => State::BodyNext,
+        Word::IfWord | Word::CommaWord => State::BodyNext,
         Word::NotWord => State::First(Slot::NotBody),
         Word::AskWord => State::First(Slot::Asker),
         Word::StopWord => State::AnyLine,
-        Word::CommaWord => State::BodyNext,
     }
 }
 
@@ -81,7 +60,7 @@ fn spelled(word: Word, k: usize, b: u8) -> State
     if b != letter(word, k) {
         return State::Bad;
     }
-    if k < last(word) {
+    if k < letters(word).len() - 1 {
         return State::Letter(word, k + 1);
     }
     after(word)
@@ -91,7 +70,7 @@ fn spelled(word: Word, k: usize, b: u8) -> State
 fn first(slot: Slot, b: u8) -> State
     ensures { result ≡ first_of slot b }
 {
-    if b == 48 {
+    if b == b'0' {
         return State::Zero(slot);
     }
     if is_digit(b) {
@@ -124,31 +103,24 @@ fn ended(slot: Slot, b: u8) -> State
     ensures { result ≡ ended_of slot b }
 {
     match slot {
-        Slot::ClaimCount => only(b, 32, State::Letter(Word::WorkersWord, 1)),
-        Slot::WorkerCount => only(b, 10, State::AnyLine),
+        Slot::ClaimCount => only(b, b' ', State::Letter(Word::WorkersWord, 1)),
+        Slot::WorkerCount => only(b, b'\n', State::AnyLine),
         Slot::Head => either(
             b,
-            46,
+            b'.',
             State::Letter(Word::StopWord, 1),
-            32,
+            b' ',
             State::Letter(Word::IfWord, 1),
         ),
-        Slot::Body => either(
+        Slot::Body | Slot::NotBody => either(
             b,
-            46,
+            b'.',
             State::Letter(Word::StopWord, 1),
-            44,
+            b',',
             State::Letter(Word::CommaWord, 1),
         ),
-        Slot::NotBody => either(
-            b,
-            46,
-            State::Letter(Word::StopWord, 1),
-            44,
-            State::Letter(Word::CommaWord, 1),
-        ),
-        Slot::Asker => only(b, 32, State::First(Slot::Asked)),
-        Slot::Asked => only(b, 10, State::AskLine),
+        Slot::Asker => only(b, b' ', State::First(Slot::Asked)),
+        Slot::Asked => only(b, b'\n', State::AskLine),
     }
 }
 
@@ -166,7 +138,7 @@ fn more(slot: Slot, b: u8) -> State
 fn any_line(b: u8) -> State
     ensures { result ≡ any_line b }
 {
-    if b == 97 {
+    if b == b'a' {
         return State::Letter(Word::AskWord, 1);
     }
     first(Slot::Head, b)
@@ -176,7 +148,7 @@ fn any_line(b: u8) -> State
 fn body_next(b: u8) -> State
     ensures { result ≡ body_next b }
 {
-    if b == 110 {
+    if b == b'n' {
         return State::Letter(Word::NotWord, 1);
     }
     first(Slot::Body, b)
@@ -188,9 +160,9 @@ pub fn step(state: State, b: u8) -> State
 {
     match state {
         State::Bad => State::Bad,
-        State::FirstLine => only(b, 99, State::Letter(Word::ClaimsWord, 1)),
+        State::FirstLine => only(b, b'c', State::Letter(Word::ClaimsWord, 1)),
         State::AnyLine => any_line(b),
-        State::AskLine => only(b, 97, State::Letter(Word::AskWord, 1)),
+        State::AskLine => only(b, b'a', State::Letter(Word::AskWord, 1)),
         State::Letter(word, k) => spelled(word, k, b),
         State::First(slot) => first(slot, b),
         State::Zero(slot) => ended(slot, b),
@@ -202,17 +174,7 @@ pub fn step(state: State, b: u8) -> State
 pub fn is_bad(state: State) -> bool
     ensures { result ≡ is_bad state }
 {
-    match state {
-        State::Bad => true,
-        State::FirstLine => false,
-        State::AnyLine => false,
-        State::AskLine => false,
-        State::Letter(_, _) => false,
-        State::First(_) => false,
-        State::Zero(_) => false,
-        State::More(_) => false,
-        State::BodyNext => false,
-    }
+    matches!(state, State::Bad)
 }
 
 // 1 at the start of a line, else 0.
@@ -220,15 +182,8 @@ pub fn starts_line(state: State) -> usize
     ensures { (result ≡ line_start state) × (result ≤ 1) }
 {
     match state {
-        State::Bad => 0,
-        State::FirstLine => 1,
-        State::AnyLine => 1,
-        State::AskLine => 1,
-        State::Letter(_, _) => 0,
-        State::First(_) => 0,
-        State::Zero(_) => 0,
-        State::More(_) => 0,
-        State::BodyNext => 0,
+        State::FirstLine | State::AnyLine | State::AskLine => 1,
+        _ => 0,
     }
 }
 
@@ -236,33 +191,20 @@ pub fn starts_line(state: State) -> usize
 pub fn with_digit(number: usize, b: u8) -> usize
     ensures { result ≡ digit_by cap number b }
 {
-    if is_digit(b) {
-        return add_digit(number, b);
+    if !is_digit(b) {
+        return 0;
     }
-    0
-}
-
-fn add_digit(number: usize, b: u8) -> usize
-    requires { is_digit b ≡ true }
-    ensures { result ≡ cap (10 * number + (b - 48)) }
-{
-    if 6553 < number {
-        return KEPT;
-    }
-    let more = 10 * number + (wide::byte(b) - 48);
-    if KEPT < more {
-        return KEPT;
-    }
-    more
+    let more = 10 * number.min(KEPT) + usize::from(b - b'0');
+    more.min(KEPT)
 }
 
 fn unless_digit(slot: Slot, number: usize, b: u8) -> Event
     ensures { result ≡ unless_digit slot number b }
 {
     if is_digit(b) {
-        return Event::Nothing;
+        return None;
     }
-    Event::Number(slot, number)
+    Some((slot, number))
 }
 
 // What byte b ends.
@@ -270,14 +212,7 @@ pub fn event(state: State, number: usize, b: u8) -> Event
     ensures { result ≡ event_in state number b }
 {
     match state {
-        State::Zero(slot) => unless_digit(slot, number, b),
-        State::More(slot) => unless_digit(slot, number, b),
-        State::Bad => Event::Nothing,
-        State::FirstLine => Event::Nothing,
-        State::AnyLine => Event::Nothing,
-        State::AskLine => Event::Nothing,
-        State::Letter(_, _) => Event::Nothing,
-        State::First(_) => Event::Nothing,
-        State::BodyNext => Event::Nothing,
+        State::Zero(slot) | State::More(slot) => unless_digit(slot, number, b),
+        _ => None,
     }
 }

@@ -9,22 +9,12 @@ pub mod grammar;
 mod note;
 mod numbers;
 mod place;
-mod put;
 mod room;
 pub mod typed;
 mod write;
 
-use job::Check;
-
-// What the call answers: the check of the text, and how many bytes the job has (0 where it is refused).
-#[derive(Clone, Copy)]
-pub struct TypedJob {
-    pub check: Check,
-    pub length: usize,
-}
-
 // The numbers of a text, by what they stand for.
-#[derive(Clone, Copy)]
+#[derive(Clone, Copy, Debug, PartialEq, Eq)]
 pub enum Slot {
     ClaimCount,
     WorkerCount,
@@ -36,7 +26,7 @@ pub enum Slot {
 }
 
 // The fixed words between the numbers.
-#[derive(Clone, Copy)]
+#[derive(Clone, Copy, Debug, PartialEq, Eq)]
 pub enum Word {
     ClaimsWord,
     WorkersWord,
@@ -48,7 +38,7 @@ pub enum Word {
 }
 
 // Where in a line the reading of a text is.
-#[derive(Clone, Copy)]
+#[derive(Clone, Copy, Debug, PartialEq, Eq)]
 pub enum State {
     // Something doesn't fit.
     Bad,
@@ -67,25 +57,14 @@ pub enum State {
 }
 
 // What a byte ends: a number with its value, kept at 65,536 where it is past that.
-#[derive(Clone, Copy)]
-pub enum Event {
-    Nothing,
-    Number(Slot, usize),
-}
+pub type Event = Option<(Slot, usize)>;
 
 // What the numbers read so far say.
-#[derive(Clone, Copy)]
+#[derive(Clone, Copy, Debug, Default, PartialEq, Eq)]
 pub struct Tally {
     pub claims: usize,
     pub workers: usize,
     pub rules: usize,
     pub literals: usize,
     pub questions: usize,
-}
-
-// The answer of row 15, and what was counted.
-#[derive(Clone, Copy)]
-pub struct Counted {
-    pub check: Check,
-    pub tally: Tally,
 }

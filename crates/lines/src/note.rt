@@ -4,7 +4,10 @@ ghost use Rattle.writing.specs.Written.{Put};
 ghost use Rattle.lines.specs.Noting.{note_of, note_in, notes_of, Kept};
 
 use crate::{Event, Slot, State, grammar};
-use job::checks;
+use job::{checks, format};
+
+// Added to a head, so that a note shows where a rule starts.
+pub const HEAD: u32 = 65536;
 
 // The most notes of rules: one for each head and each literal; and the most notes of a job: two for each question besides.
 pub const MOST_RULE_NOTES: usize = checks::MOST_RULES + checks::MOST_LITERALS;
@@ -24,13 +27,10 @@ fn note_number(notes: &mut [u32], at: usize, slot: Slot, number: u32) -> usize
     ensures { Put notes.old at (note_of slot number) notes.new result }
 {
     match slot {
-        Slot::ClaimCount => at,
-        Slot::WorkerCount => at,
-        Slot::Head => put_note(notes, at, 65536 + number),
-        Slot::Body => put_note(notes, at, number),
-        Slot::NotBody => put_note(notes, at, 32768 + number),
-        Slot::Asker => put_note(notes, at, number),
-        Slot::Asked => put_note(notes, at, number),
+        Slot::ClaimCount | Slot::WorkerCount => at,
+        Slot::Head => put_note(notes, at, HEAD + number),
+        Slot::Body | Slot::Asker | Slot::Asked => put_note(notes, at, number),
+        Slot::NotBody => put_note(notes, at, format::NEGATED as u32 + number),
     }
 }
 
@@ -40,8 +40,8 @@ fn note(notes: &mut [u32], at: usize, event: Event) -> usize
     ensures { Put notes.old at (note_in event) notes.new result }
 {
     match event {
-        Event::Nothing => at,
-        Event::Number(slot, number) => note_number(notes, at, slot, number as u32),
+        None => at,
+        Some((slot, number)) => note_number(notes, at, slot, number as u32),
     }
 }
 
@@ -52,8 +52,7 @@ pub fn note_numbers(text: &[u8], notes: &mut [u32]) -> usize
     let mut state = State::FirstLine;
     let mut number: usize = 0;
     let mut at: usize = 0;
-    for i in 0..text.len() {
-        let b = text[i];
+    for &b in text {
         let event = grammar::event(state, number, b);
         at = note(notes, at, event);
         number = grammar::with_digit(number, b);

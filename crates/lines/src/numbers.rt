@@ -3,20 +3,8 @@ ghost use Rattle.std.specs.Prelude.{◌≡◌, ◌||◌};
 ghost use Rattle.base.specs.Compare.{under, over, not_below};
 ghost use Rattle.lines.specs.Numbering.{no_tally, counted_number, counted_with, faulty_number, faulty_with, Small, counted_all};
 
-use crate::{Counted, Event, Slot, State, Tally, grammar};
-use job::{Check, checks};
-
-pub fn nothing() -> Tally
-    ensures { result ≡ no_tally }
-{
-    Tally {
-        claims: 0,
-        workers: 0,
-        rules: 0,
-        literals: 0,
-        questions: 0,
-    }
-}
+use crate::{Event, Slot, State, Tally, grammar};
+use job::{Refusal, checks};
 
 // The tally with one number more.
 fn counted_number(tally: Tally, slot: Slot, number: usize) -> Tally
@@ -28,8 +16,7 @@ fn counted_number(tally: Tally, slot: Slot, number: usize) -> Tally
         Slot::ClaimCount => t.claims = number,
         Slot::WorkerCount => t.workers = number,
         Slot::Head => t.rules += 1,
-        Slot::Body => t.literals += 1,
-        Slot::NotBody => t.literals += 1,
+        Slot::Body | Slot::NotBody => t.literals += 1,
         Slot::Asker => {}
         Slot::Asked => t.questions += 1,
     }
@@ -41,8 +28,8 @@ fn counted(tally: Tally, event: Event) -> Tally
     ensures { result ≡ counted_with tally event }
 {
     match event {
-        Event::Nothing => tally,
-        Event::Number(slot, number) => counted_number(tally, slot, number),
+        None => tally,
+        Some((slot, number)) => counted_number(tally, slot, number),
     }
 }
 
@@ -50,19 +37,13 @@ fn counted(tally: Tally, event: Event) -> Tally
 fn past(count: usize, limit: usize, number: usize, bound: usize) -> bool
     ensures { result ≡ (over count limit || not_below number bound) }
 {
-    if limit < count {
-        return true;
-    }
-    bound <= number
+    limit < count || bound <= number
 }
 
 fn no_workers(number: usize) -> bool
     ensures { result ≡ (under number 1 || over number 32) }
 {
-    if number < 1 {
-        return true;
-    }
-    checks::MOST_WORKERS < number
+    number < 1 || checks::MOST_WORKERS < number
 }
 
 // Whether a number is past its limit or not below its count, or the tally with it is past a limit.
@@ -74,8 +55,7 @@ fn faulty_number(t: Tally, slot: Slot, number: usize) -> bool
         Slot::ClaimCount => checks::MOST_CLAIMS < number,
         Slot::WorkerCount => no_workers(number),
         Slot::Head => past(t.rules, checks::MOST_RULES, number, claims),
-        Slot::Body => past(t.literals, checks::MOST_LITERALS, number, claims),
-        Slot::NotBody => past(t.literals, checks::MOST_LITERALS, number, claims),
+        Slot::Body | Slot::NotBody => past(t.literals, checks::MOST_LITERALS, number, claims),
         Slot::Asker => t.workers <= number,
         Slot::Asked => past(t.questions, checks::MOST_QUESTIONS, number, claims),
     }
@@ -84,40 +64,30 @@ fn faulty_number(t: Tally, slot: Slot, number: usize) -> bool
 fn faulty(tally: Tally, event: Event) -> bool
     ensures { result ≡ faulty_with tally event }
 {
-    match event {
-        Event::Nothing => false,
-        Event::Number(slot, number) => faulty_number(tally, slot, number),
-    }
+    event.is_some_and(|(slot, number)| faulty_number(tally, slot, number))
 }
 
-// The text's numbers in turn, up to the first fault.
-pub fn count_numbers(text: &[u8]) -> Counted
+// The text's numbers in turn, up to the first fault: what they count.
+pub fn count_numbers(text: &[u8]) -> Result<Tally, Refusal>
     ensures { result ≡ counted_all text.now }
 {
     let mut state = State::FirstLine;
     let mut number: usize = 0;
-    let mut tally = nothing();
+    let mut tally = Tally::default();
     let mut line: usize = 0;
-    for i in 0..text.len() {
-        let b = text[i];
+    for &b in text {
         line += grammar::starts_line(state);
         let event = grammar::event(state, number, b);
         let next = counted(tally, event);
         if faulty(next, event) {
-            return Counted {
-                check: Check::Refused {
-                    number: 15,
-                    place: line,
-                },
-                tally,
-            };
+            return Err(Refusal {
+                number: 15,
+                place: line,
+            });
         }
         tally = next;
         number = grammar::with_digit(number, b);
         state = grammar::step(state, b);
     }
-    Counted {
-        check: Check::Accepted,
-        tally,
-    }
+    Ok(tally)
 }

@@ -1,10 +1,11 @@
 // Rows 14, 15 and 16 together, each over the whole text before the next. The contracts cite specs/Room.
-ghost use Rattle.std.specs.Prelude.{◌≡◌};
+ghost use Rattle.std.specs.Prelude.{◌≡◌, IfOk, Ok};
+ghost use Rattle.lines.specs.Answer.{check_of};
 ghost use Rattle.lines.specs.Numbering.{Small, counted_all};
 ghost use Rattle.lines.specs.Room.{tally_size, room_row, check_counts, check_text};
 
-use crate::{Counted, Tally, fits, numbers};
-use job::Check;
+use crate::{Tally, fits, numbers};
+use job::{Check, Refusal};
 
 // The bytes that a job needs.
 pub fn job_bytes(t: Tally) -> usize
@@ -20,42 +21,29 @@ fn check_room(room: usize, t: Tally) -> Check
 {
     let needed = job_bytes(t);
     if room < needed {
-        return Check::Refused {
+        return Err(Refusal {
             number: 16,
             place: needed,
-        };
+        });
     }
-    Check::Accepted
+    Ok(())
 }
 
-// Rows 15 and 16, and what was counted.
-fn check_counts(text: &[u8], room: usize) -> Counted
-    ensures check_value { result.check ≡ check_counts text.now room }
-    ensures tally_value { result.tally ≡ (counted_all text.now).tally }
+// Rows 15 and 16: what was counted.
+fn check_counts(text: &[u8], room: usize) -> Result<Tally, Refusal>
+    ensures check { check_of result ≡ check_counts text.now room }
+    ensures tally { IfOk result (λ t. counted_all text.now ≡ Ok t) }
 {
-    let counted = numbers::count_numbers(text);
-    let check = counted.check;
-    let tally = counted.tally;
-    let Check::Accepted = check else {
-        return counted;
-    };
-    Counted {
-        check: check_room(room, tally),
-        tally,
-    }
+    let tally = numbers::count_numbers(text)?;
+    check_room(room, tally)?;
+    Ok(tally)
 }
 
-// The checks of a text for an output of `room` bytes, and what was counted where it is accepted.
-pub fn check_lines(text: &[u8], room: usize) -> Counted
-    ensures check_value { result.check ≡ check_text text.now room }
-    ensures tally_value { result.check ≡ Check.Accepted → result.tally ≡ (counted_all text.now).tally }
+// The checks of a text for an output of `room` bytes: what was counted.
+pub fn check_lines(text: &[u8], room: usize) -> Result<Tally, Refusal>
+    ensures check { check_of result ≡ check_text text.now room }
+    ensures tally { IfOk result (λ t. counted_all text.now ≡ Ok t) }
 {
-    let fit = fits::check_fit(text);
-    let Check::Accepted = fit else {
-        return Counted {
-            check: fit,
-            tally: numbers::nothing(),
-        };
-    };
+    fits::check_fit(text)?;
     check_counts(text, room)
 }

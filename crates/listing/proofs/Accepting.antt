@@ -1,27 +1,31 @@
 -- What an accepted input has. Assumes nothing.
 --   accepted_input   its job is accepted, its schedule names workers of the job, and it is not too long
 --   some_zeros       a front part of zeros
---   used-fits        13,416 words are enough for the table of every job; used_zeros   those used, of as many zeros
---   rest             the end of a list, as a part of a slice reads it
---   parts            what the two parts of an accepted input have, once its job's end is read
+--   used_most        13,416 words are enough for the table of every job; used_zeros   those used, of as many zeros
+--   both_parts       the two parts of an input, as it was split
+--   parts            what the two parts of an accepted input have
 --   refused-by, accepted-by, room_by   the text by the check; no_room, in-room   the text in the buffer
 --   check-short, check-room   the checks of a call, without room and with it
-use Prim.Native.Nat.{ℕ, zero, suc, ◌+◌, ◌-◌, ◌≤◌, ◌<◌}
-use mathlib.Core.Path.{◌≡◌, refl, sym, ◌∙◌, ap, subst}
+use Prim.Native.Nat.{ℕ, zero, suc, ◌+◌, ◌≤◌, ◌<◌}
+use mathlib.Core.Path.{◌≡◌, refl, sym, ◌∙◌, ap, ap₂, subst}
 use mathlib.Core.Bool.{Bool, true, false}
 use mathlib.Core.List.{List, ◌∷◌, ◌++◌}
 use native.Mathlib.Omega.{arith}
-use lib.ListN.{length, get_or, take, drop, replicate, length-append, length-drop, length-replicate}
-use lib.Seq.{take-length}
+use lib.ListN.{length, get_or, take, drop, replicate, length-append, length-drop}
 use Rattle.base.proofs.Choose.{pick_true, pick-false}
 use Rattle.base.proofs.Compare.{over_le, under-yes, under-no}
 use Rattle.writing.specs.Written.{Put, wrote}
+use Rattle.writing.specs.Writes.{Writes}
+use Rattle.writing.specs.declared.writer.Writer.{Writer}
+use Rattle.writing.proofs.Writing.{writes_as}
 use Rattle.job.specs.Accepted.{WellFormed}
 use Rattle.job.specs.Checks.{check_job}
 use Rattle.job.specs.Rows.{◌⨾◌, row}
 use Rattle.job.specs.Format.{workers, job_of}
-use Rattle.job.specs.declared.Check.{Check}
-use Rattle.job.specs.declared.Check.TheVariants.{Accepted, Refused}
+use Rattle.job.specs.Check.{Check}
+use Rattle.job.specs.Check.{Accepted, Refused}
+use Rattle.std.specs.Prelude.{Err}
+use Rattle.std.specs.Result.{result_and}
 use Rattle.job.proofs.Accepted.{well_formed}
 use Rattle.job.proofs.Rows.{both, row-no}
 use Rattle.job.proofs.Written.{questions_count}
@@ -47,7 +51,7 @@ accepted_input i e =
       low = schedule-low _ _ y.1;
     }
 
-used_most : (s : List ℕ) → WellFormed s → used (job_of s) ≤ most_words
+pub used_most : (s : List ℕ) → WellFormed s → used (job_of s) ≤ most_words
 unfolding job_of
 used_most s w = omega (arith, w.sized.claims_most, w.sized.workers_most, w.sized.questions_most, questions_count s)
 
@@ -56,45 +60,36 @@ some_zeros zero m h = refl
 some_zeros (suc n) zero h = absurd (omega arith)
 some_zeros (suc n) (suc m) h = ap (λ (l : List ℕ). 0 ∷ l) (some_zeros n m (omega arith))
 
-pub used-fits : (s : List ℕ) → WellFormed s → {words : List ℕ} → words ≡ replicate most_words 0 → {n : ℕ} → n ≡ used (job_of s) → n ≤ length words
-used-fits s w {words} e q =
-    let size : length words ≡ most_words = ap length e ∙ length-replicate {A = ℕ} most_words 0 in
-    omega (arith, used_most s w)
-
 pub used_zeros : (s : List ℕ) → WellFormed s → {words : List ℕ} → words ≡ replicate most_words 0 → {n : ℕ} → n ≡ used (job_of s) → take n words ≡ replicate (used (job_of s)) 0
 used_zeros s w e {n} q = ap (take n) e ∙ some_zeros n most_words (omega (arith, used_most s w)) ∙ ap (λ (k : ℕ). replicate {A = ℕ} k 0) q
 
-pub rest : (end : ℕ) (i : List ℕ) → take (length i - end) (drop end i) ≡ drop end i
-rest end i = ap (λ (k : ℕ). take k (drop end i)) (sym (length-drop end i)) ∙ take-length (drop end i)
+-- the two parts of an input, as it is split at the place that was read
+pub both_parts :
+    (i : List ℕ) {end : ℕ} → end ≡ job_end i → {job ws : List ℕ} → job ≡ take end i → ws ≡ drop end i → (job ≡ job_part i) × (ws ≡ schedule_part i)
+both_parts i e p q = (p ∙ ap (λ (k : ℕ). take k i) e, q ∙ ap (λ (k : ℕ). drop k i) e)
 
--- the part after `end`, as a slice reads it
-abbrev tail : List ℕ → ℕ → List ℕ
-tail i end = take (length i - end) (drop end i)
+abbrev Parts : List ℕ → List ℕ → Type 0
+Parts job ws = ((k : ℕ) → k < length ws → get_or ws k 0 < workers job) × (length ws ≤ most_input)
 
-abbrev Parts : List ℕ → ℕ → List ℕ → Type 0
-Parts i end ws = WellFormed (take end i) × ((k : ℕ) → k < length ws → get_or ws k 0 < workers (take end i)) × (length ws ≤ most_input)
-
-pub parts : (i : List ℕ) (end : ℕ) → end ≡ job_end i → AcceptedInput i → Parts i end (tail i end)
-parts i end e a =
+pub parts : (i : List ℕ) → AcceptedInput i → {job ws : List ℕ} → job ≡ job_part i → ws ≡ schedule_part i → Parts job ws
+parts i a {job} {ws} p q =
     let short : length (schedule_part i) ≤ most_input = omega (arith, length-drop (job_end i) i, a.short) in
-    let here : Parts i (job_end i) (schedule_part i) = (a.good, a.low, short) in
-    subst (Parts i end) (sym (rest end i)) (subst (λ (k : ℕ). Parts i k (drop k i)) (sym e) here)
+    let here : Parts (job_part i) (schedule_part i) = (a.low, short) in
+    subst (λ (x : List ℕ). Parts x ws) (sym p) (subst (Parts (job_part i)) (sym q) here)
 
-module _ (i : List ℕ) {check : Check} {buf out : List ℕ} {r : ℕ} where
-  pub refused-by : {n p : ℕ} → check ≡ Refused n p → Put buf 0 (refusal_line n p) out r → Put buf 0 (listing_if check i) out r
+module _ (i : List ℕ) {check : Check} {a b : Writer} where
+  pub refused-by : {n p : ℕ} → check ≡ Refused n p → Writes a b (refusal_line n p) → Writes a b (listing_if check i)
   unfolding listing_if
-  refused-by {n} {p} e q = subst (λ (x : Check). Put buf 0 (listing_if x i) out r) (sym e) q
+  refused-by {n} {p} e q = subst (λ (x : Check). Writes a b (listing_if x i)) (sym e) q
 
-  pub accepted-by : {end : ℕ} → check ≡ Accepted → end ≡ job_end i → Put buf 0 (listed (job_of (take end i)) (tail i end)) out r → Put buf 0 (listing_if check i) out r
+  pub accepted-by : {job ws : List ℕ} → check ≡ Accepted → job ≡ job_part i → ws ≡ schedule_part i → Writes a b (listed (job_of job) ws) → Writes a b (listing_if check i)
   unfolding listing_if
-  accepted-by {end} e q p =
-      let z : Put buf 0 (listed (job_of (take end i)) (drop end i)) out r = rw (rest end i) at p in
-      subst (λ (x : Check). Put buf 0 (listing_if x i) out r) (sym e)
-      (subst (λ (k : ℕ). Put buf 0 (listed (job_of (take k i)) (drop k i)) out r) q z)
+  accepted-by e p q w =
+      subst (λ (x : Check). Writes a b (listing_if x i)) (sym e) (writes_as w (ap₂ (λ (x y : List ℕ). listed (job_of x) y) p q))
 
-  pub room_by : check ≡ listing_check i → Put buf 0 (listing_if check i) out r → Put buf 0 (listing i) out r
-  unfolding listing
-  room_by e q = subst (λ (x : Check). Put buf 0 (listing_if x i) out r) e q
+pub room_by : (i : List ℕ) {check : Check} {buf out : List ℕ} {r : ℕ} → check ≡ listing_check i → Put buf 0 (listing_if check i) out r → Put buf 0 (listing i) out r
+unfolding listing
+room_by i {buf = buf} {out = out} {r = r} e q = subst (λ (x : Check). Put buf 0 (listing_if x i) out r) e q
 
 -- the checks of a call
 row_refuses : (x y : Check) (number place : ℕ) {b : Bool} → b ≡ true → y ≡ x → y ⨾ Refused number place ≡ x ⨾ row b number place
@@ -104,12 +99,17 @@ row_refuses x y number place e q = rw (e, q)
 row-passes : (x : Check) (number place : ℕ) {b : Bool} → b ≡ false → x ≡ x ⨾ row b number place
 unfolding row ◌⨾◌
 row-passes Accepted number place e = rw e
-row-passes (Refused n p) number place e = refl
+row-passes (Err refusal) number place e = refl
+
+and-first : (x y : Check) → result_and x y ≡ x ⨾ y
+unfolding ◌⨾◌
+and-first Accepted y = refl
+and-first (Err refusal) y = refl
 
 module _ (i : List ℕ) {check : Check} {n : ℕ} (checked : check ≡ listing_check i) where
-  pub check-short : n < most_text → check ⨾ Refused 16 most_text ≡ list_check i n
+  pub check-short : n < most_text → result_and check (Refused 16 most_text) ≡ list_check i n
   unfolding list_check
-  check-short h = row_refuses (listing_check i) check 16 most_text (under-yes _ _ h) checked
+  check-short h = and-first check (Refused 16 most_text) ∙ row_refuses (listing_check i) check 16 most_text (under-yes _ _ h) checked
 
   pub check-room : most_text ≤ n → check ≡ list_check i n
   unfolding list_check

@@ -26,7 +26,7 @@ use Rattle.base.proofs.Members.{span_at}
 use Rattle.job.specs.Job.{Job}
 use Rattle.job.specs.Format.{job_of}
 use Rattle.job.specs.Checks.{check_job}
-use Rattle.job.specs.declared.Check.TheVariants.{Accepted}
+use Rattle.job.specs.Check.{Accepted}
 use Rattle.table.specs.Questions.{asked_by}
 use Rattle.table.specs.Layout.{answered}
 use Rattle.table.specs.Start.{start_words}

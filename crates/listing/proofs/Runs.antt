@@ -1,7 +1,8 @@
 -- A line from the texts that it was written by, one after the other; and lines after lines. Assumes nothing.
---   Run buf at n s out r             s is written, and takes at most n bytes
---   run-start, run_more, run_none, run_size   the first text; one more; none yet; the buffer's length
---   put-refusal-line, put-claim-line, put-answer-line, put-question-line, put-counted   a line, or a count of the tally
+--   Run a n s b                      s is written, and takes at most n bytes
+--   run-start, run_more, run_none    the first text; one more; none yet
+--   least                            the buffer's length
+--   refusal_written, claim_written, answer_written, question_written, count_written   a line, or a count of the tally
 --   claims_none, claims-more         lines of claims: none yet; one more
 --   counts_none, -more, _whole       counts of the tally: none yet; one more; the whole line
 --   first_lines s t k, first_none, _more, -whole   the lines of the first k questions: none yet; one more; all
@@ -11,15 +12,17 @@ use mathlib.Core.List.{List, [], ◌∷◌, ◌++◌, flat_map, append_assoc, ap
 use native.Mathlib.Nat.{zero-add, add-zero}
 use native.Mathlib.Numerals.{add-one}
 use native.Mathlib.Omega.{arith}
-use lib.ListN.{length, take, get_or, length-append}
+use lib.ListN.{length, take, drop, get_or, length-append, length-drop, take-append-drop}
 use lib.Seq.{take-length}
 use Rattle.base.specs.Span.{span}
 use Rattle.base.specs.Lists.{upto}
 use Rattle.base.proofs.Span.{length-span, span_snoc}
 use Rattle.writing.specs.Decimal.{decimal}
-use Rattle.writing.specs.Written.{Put}
+use Rattle.writing.specs.Written.{wrote}
+use Rattle.writing.specs.Writes.{Writes, HasRoom}
+use Rattle.writing.specs.declared.writer.Writer.{Writer}
 use Rattle.writing.proofs.Decimal.{length-room}
-use Rattle.writing.proofs.Wrote.{put_none, put_put, put_size}
+use Rattle.writing.proofs.Writing.{writes_none, writes-writes}
 use Rattle.job.specs.Bytes.{half}
 use Rattle.job.specs.Job.{Job}
 use Rattle.job.specs.Accepted.{WellFormed}
@@ -32,49 +35,63 @@ use Rattle.listing.specs.Text.{blank, line_end, refused_word, tally_word, name_o
 use Rattle.listing.specs.Listing.{refusal_line, claim_line, count_text, tally_line, answer_line, question_line, question_lines, line_of}
 use Rattle.listing.proofs.Names.{name-room}
 
-pub record Run (buf : List ℕ) (at n : ℕ) (s out : List ℕ) (r : ℕ) : Type 0 where
-  pub put : Put buf at s out r
+-- what is written makes no buffer shorter
+wrote-least : (buf : List ℕ) (at : ℕ) (text : List ℕ) → length buf ≤ length (wrote buf at text)
+unfolding wrote
+wrote-least buf at text =
+    omega (
+      arith,
+      length-append (take at buf) text,
+      length-append (take at buf ++ text) (drop (at + length text) buf),
+      length-append (take at buf) (drop at buf),
+      ap length (take-append-drop at buf),
+      length-drop at buf,
+      length-drop (at + length text) buf,
+    )
+
+pub least : {a b : Writer} {s : List ℕ} → Writes a b s → length a.buf.now ≤ length b.buf.now
+least {a} {b} {s} p = omega (arith, ap length p.put.bytes, wrote-least a.buf.now a.at s)
+
+pub record Run (a : Writer) (n : ℕ) (s : List ℕ) (b : Writer) : Type 0 where
+  pub writes : Writes a b s
   pub few : length s ≤ n
 
-pub run-start : {buf : List ℕ} {at : ℕ} (n : ℕ) {s out : List ℕ} {r : ℕ} → length s ≤ n → Put buf at s out r → Run buf at n s out r
-run-start n h p = record { put = p; few = h }
+pub run-start : {a b : Writer} (n : ℕ) {s : List ℕ} → length s ≤ n → Writes a b s → Run a n s b
+run-start n h p = record { writes = p; few = h }
 
 pub run_more :
-    {buf : List ℕ} {at n : ℕ} {s out : List ℕ} {r : ℕ} (k : ℕ) {t out' : List ℕ} {r' : ℕ} → at + n ≤ length buf
-    → length t ≤ k → Run buf at n s out r → Put out r t out' r' → Run buf at (n + k) (s ++ t) out' r'
-run_more {buf = buf} {at = at} {n = n} {s = s} {out = out} {r = r} k {t = t} {out' = out'} {r' = r'} h l p q =
-    record {
-      put = put_put buf at s out r (omega (arith, p.few)) p.put t out' r' q;
-      few = omega (arith, p.few, length-append s t);
-    }
+    {a b c : Writer} {n : ℕ} {s t : List ℕ} (k : ℕ) → HasRoom a n → length t ≤ k → Run a n s b → Writes b c t
+    → Run a (n + k) (s ++ t) c
+run_more {a = a} {b = b} {c = c} {s = s} {t = t} k h l p q =
+    record { writes = writes-writes a b s (omega arith) p.writes c t q; few = omega (arith, length-append s t) }
 
-module _ {buf o₁ o₂ o₃ o₄ o₅ : List ℕ} {at r₁ r₂ r₃ r₄ r₅ : ℕ} where
-  pub put-refusal-line :
-      {number place : ℕ} → at + 60 ≤ length buf → number < 18446744073709551616 → place < 18446744073709551616
-      → Put buf at refused_word o₁ r₁ → Put o₁ r₁ (decimal number) o₂ r₂ → Put o₂ r₂ (blank ∷ []) o₃ r₃
-      → Put o₃ r₃ (decimal place) o₄ r₄ → Put o₄ r₄ (line_end ∷ []) o₅ r₅ → Put buf at (refusal_line number place) o₅ r₅
-  put-refusal-line {number = number} {place = place} h m l p₁ p₂ p₃ p₄ p₅ =
-      let a : Run buf at 8 refused_word o₁ r₁ = run-start 8 (omega arith) p₁ in
-      let b : Run buf at 28 (refused_word ++ decimal number) o₂ r₂ = run_more 20 (omega arith) (length-room number m) a p₂ in
-      let c : Run buf at 29 (refused_word ++ decimal number ++ (blank ∷ [])) o₃ r₃ = run_more 1 (omega arith) (omega arith) b p₃ in
-      let d : Run buf at 49 (refused_word ++ decimal number ++ (blank ∷ []) ++ decimal place) o₄ r₄ =
-      run_more 20 (omega arith) (length-room place l) c p₄ in
-      let e : Run buf at 50 (refusal_line number place) o₅ r₅ = run_more 1 (omega arith) (omega arith) d p₅ in
-      e.put
+module _ {a b₁ b₂ b₃ b₄ b₅ : Writer} where
+  pub refusal_written :
+      {number place : ℕ} → HasRoom a 60 → number < 18446744073709551616 → place < 18446744073709551616
+      → Writes a b₁ refused_word → Writes b₁ b₂ (decimal number) → Writes b₂ b₃ (blank ∷ [])
+      → Writes b₃ b₄ (decimal place) → Writes b₄ b₅ (line_end ∷ []) → Writes a b₅ (refusal_line number place)
+  refusal_written {number = number} {place = place} h m l p₁ p₂ p₃ p₄ p₅ =
+      let q₁ : Run a 8 refused_word b₁ = run-start 8 (omega arith) p₁ in
+      let q₂ : Run a 28 (refused_word ++ decimal number) b₂ = run_more 20 (omega arith) (length-room number m) q₁ p₂ in
+      let q₃ : Run a 29 (refused_word ++ decimal number ++ (blank ∷ [])) b₃ = run_more 1 (omega arith) (omega arith) q₂ p₃ in
+      let q₄ : Run a 49 (refused_word ++ decimal number ++ (blank ∷ []) ++ decimal place) b₄ =
+      run_more 20 (omega arith) (length-room place l) q₃ p₄ in
+      let q₅ : Run a 50 (refusal_line number place) b₅ = run_more 1 (omega arith) (omega arith) q₄ p₅ in
+      q₅.writes
 
-module _ {buf o₁ o₂ o₃ o₄ : List ℕ} {at r₁ r₂ r₃ r₄ : ℕ} where
-  pub put-claim-line :
-      (t : List ℕ) (c : ℕ) {m : ℕ} {v : Reading} → at + 31 ≤ length buf → c < 18446744073709551616 → m ≡ mark t c → v ≡ reading_of m
-      → Put buf at (decimal c) o₁ r₁ → Put o₁ r₁ (blank ∷ []) o₂ r₂ → Put o₂ r₂ (name_of v) o₃ r₃
-      → Put o₃ r₃ (line_end ∷ []) o₄ r₄ → Put buf at (claim_line t c) o₄ r₄
-  put-claim-line t c {m = m} {v = v} h l q g p₁ p₂ p₃ p₄ =
+module _ {a b₁ b₂ b₃ b₄ : Writer} where
+  pub claim_written :
+      (t : List ℕ) (c : ℕ) {m : ℕ} {v : Reading} → HasRoom a 31 → c < 18446744073709551616 → m ≡ mark t c → v ≡ reading_of m
+      → Writes a b₁ (decimal c) → Writes b₁ b₂ (blank ∷ []) → Writes b₂ b₃ (name_of v)
+      → Writes b₃ b₄ (line_end ∷ []) → Writes a b₄ (claim_line t c)
+  claim_written t c {m = m} {v = v} h l q g p₁ p₂ p₃ p₄ =
       let w : v ≡ reading_of (mark t c) = g ∙ ap reading_of q in
-      let a : Run buf at 20 (decimal c) o₁ r₁ = run-start 20 (length-room c l) p₁ in
-      let b : Run buf at 21 (decimal c ++ (blank ∷ [])) o₂ r₂ = run_more 1 (omega arith) (omega arith) a p₂ in
-      let d : Run buf at 30 (decimal c ++ (blank ∷ []) ++ name_of v) o₃ r₃ = run_more 9 (omega arith) (name-room v) b p₃ in
-      let e : Run buf at 31 (decimal c ++ (blank ∷ []) ++ name_of v ++ (line_end ∷ [])) o₄ r₄ =
-      run_more 1 (omega arith) (omega arith) d p₄ in
-      rw w at e.put
+      let q₁ : Run a 20 (decimal c) b₁ = run-start 20 (length-room c l) p₁ in
+      let q₂ : Run a 21 (decimal c ++ (blank ∷ [])) b₂ = run_more 1 (omega arith) (omega arith) q₁ p₂ in
+      let q₃ : Run a 30 (decimal c ++ (blank ∷ []) ++ name_of v) b₃ = run_more 9 (omega arith) (name-room v) q₂ p₃ in
+      let q₄ : Run a 31 (decimal c ++ (blank ∷ []) ++ name_of v ++ (line_end ∷ [])) b₄ =
+      run_more 1 (omega arith) (omega arith) q₃ p₄ in
+      rw w at q₄.writes
 
 pub claim-room : (t : List ℕ) (c : ℕ) → c < 18446744073709551616 → length (claim_line t c) ≤ 31
 claim-room t c l =
@@ -89,27 +106,24 @@ claim-room t c l =
     )
 
 -- nothing yet, and one line more of claims
-pub run_none : {A : Type 0} (f : A → List ℕ) (buf : List ℕ) (at : ℕ) → Run buf at 0 (flat_map f []) buf at
+pub run_none : {A : Type 0} (f : A → List ℕ) (a : Writer) → Run a 0 (flat_map f []) a
 unfolding flat_map
-run_none f buf at = record { put = put_none buf at; few = omega arith }
-
-pub run_size : {buf : List ℕ} {at n : ℕ} {s out : List ℕ} {r : ℕ} → at + n ≤ length buf → Run buf at n s out r → length out ≡ length buf
-run_size {buf = buf} {at = at} {n = n} {s = s} {out = out} {r = r} h p = put_size buf at s out r (omega (arith, p.few)) p.put
+run_none f a = record { writes = writes_none a; few = omega arith }
 
 pub flat_map_snoc : {A : Type 0} (f : A → List ℕ) (xs : List A) (x : A) → flat_map f (xs ++ (x ∷ [])) ≡ flat_map f xs ++ f x
 unfolding flat_map
 flat_map_snoc f [] x = append-nil (f x)
 flat_map_snoc f (y ∷ ys) x = ap (λ (l : List ℕ). f y ++ l) (flat_map_snoc f ys x) ∙ sym (append_assoc (f y) (flat_map f ys) (f x))
 
-pub claims_none : (t buf : List ℕ) (at : ℕ) → Run buf at 0 (flat_map (claim_line t) (upto 0)) buf at
+pub claims_none : (t : List ℕ) (a : Writer) → Run a 0 (flat_map (claim_line t) (upto 0)) a
 unfolding span
-claims_none t buf at = run_none (claim_line t) buf at
+claims_none t a = run_none (claim_line t) a
 
 pub claims-more :
-    (t : List ℕ) {buf out out' : List ℕ} {at r r' : ℕ} (c : ℕ) → c < 18446744073709551616 → at + 31 * c ≤ length buf
-    → Run buf at (31 * c) (flat_map (claim_line t) (upto c)) out r → Put out r (claim_line t c) out' r'
-    → Run buf at (31 * (c + 1)) (flat_map (claim_line t) (upto (c + 1))) out' r'
-claims-more t {buf = buf} {out = out} {out' = out'} {at = at} {r = r} {r' = r'} c l h p q =
+    (t : List ℕ) {a b b' : Writer} (c : ℕ) → c < 18446744073709551616 → HasRoom a (31 * c)
+    → Run a (31 * c) (flat_map (claim_line t) (upto c)) b → Writes b b' (claim_line t c)
+    → Run a (31 * (c + 1)) (flat_map (claim_line t) (upto (c + 1))) b'
+claims-more t c l h p q =
     let e : upto (c + 1) ≡ upto c ++ (c ∷ []) =
     ap upto (add-one c) ∙ span_snoc (λ k. k) 0 c ∙ ap (λ (k : ℕ). upto c ++ (k ∷ [])) (zero-add c) in
     let g : flat_map (claim_line t) (upto (c + 1)) ≡ flat_map (claim_line t) (upto c) ++ claim_line t c =
@@ -118,8 +132,8 @@ claims-more t {buf = buf} {out = out} {out' = out'} {at = at} {r = r} {r' = r'} 
     rw (g, m) (run_more 31 h (claim-room t c l) p q)
 
 -- the counts of a tally
-pub counts_none : (ns buf : List ℕ) (at : ℕ) → Run buf at 0 (flat_map count_text (take 0 ns)) buf at
-counts_none ns buf at = run_none count_text buf at
+pub counts_none : (ns : List ℕ) (a : Writer) → Run a 0 (flat_map count_text (take 0 ns)) a
+counts_none ns a = run_none count_text a
 
 take_more : (xs : List ℕ) (i : ℕ) → i < length xs → take (suc i) xs ≡ take i xs ++ (get_or xs i 0 ∷ [])
 take_more [] i h = absurd (omega arith)
@@ -127,10 +141,10 @@ take_more (x ∷ xs) zero h = refl
 take_more (x ∷ xs) (suc i) h = ap (λ (l : List ℕ). x ∷ l) (take_more xs i (omega arith))
 
 pub counts-more :
-    (ns : List ℕ) {buf out out' : List ℕ} {at r r' : ℕ} (i : ℕ) → i < length ns → at + 21 * i ≤ length buf
-    → Run buf at (21 * i) (flat_map count_text (take i ns)) out r → Put out r (count_text (get_or ns i 0)) out' r' × (r' ≤ r + 21)
-    → Run buf at (21 * (i + 1)) (flat_map count_text (take (i + 1) ns)) out' r'
-counts-more ns {buf = buf} {out = out} {out' = out'} {at = at} {r = r} {r' = r'} i l h p q =
+    (ns : List ℕ) {a b b' : Writer} (i : ℕ) → i < length ns → HasRoom a (21 * i)
+    → Run a (21 * i) (flat_map count_text (take i ns)) b → Writes b b' (count_text (get_or ns i 0)) × (b'.at ≤ b.at + 21)
+    → Run a (21 * (i + 1)) (flat_map count_text (take (i + 1) ns)) b'
+counts-more ns i l h p q =
     let n : ℕ = get_or ns i 0 in
     let s : List ℕ = flat_map count_text (take i ns) in
     let e : flat_map count_text (take (i + 1) ns) ≡ s ++ count_text n =
@@ -138,45 +152,45 @@ counts-more ns {buf = buf} {out = out} {out' = out'} {at = at} {r = r} {r' = r'}
     ∙ ap (flat_map count_text) (take_more ns i l)
     ∙ flat_map_snoc count_text (take i ns) n in
     let m : 21 * (i + 1) ≡ 21 * i + 21 = omega arith in
-    let few : length (count_text n) ≤ 21 = omega (arith, q.0.next, q.1) in
+    let few : length (count_text n) ≤ 21 = omega arith in
     rw (e, m) (run_more 21 h few p q.0)
 
 pub counts_whole :
-    (ns : List ℕ) {buf o₁ o₂ o₃ : List ℕ} {at r₁ r₂ r₃ i : ℕ} → length ns ≡ 8 → i ≡ 8 → at + 200 ≤ length buf → Put buf at tally_word o₁ r₁
-    → Run o₁ r₁ (21 * i) (flat_map count_text (take i ns)) o₂ r₂ → Put o₂ r₂ (line_end ∷ []) o₃ r₃ → Put buf at (tally_line ns) o₃ r₃
-counts_whole ns {buf = buf} {o₁ = o₁} {o₂ = o₂} {o₃ = o₃} {at = at} {r₁ = r₁} {r₂ = r₂} {r₃ = r₃} {i = i} l q h p m z =
+    (ns : List ℕ) {a b₁ b₂ b₃ : Writer} {i : ℕ} → length ns ≡ 8 → i ≡ 8 → HasRoom a 200 → Writes a b₁ tally_word
+    → Run b₁ (21 * i) (flat_map count_text (take i ns)) b₂ → Writes b₂ b₃ (line_end ∷ []) → Writes a b₃ (tally_line ns)
+counts_whole ns {a = a} {b₁ = b₁} {b₂ = b₂} {b₃ = b₃} {i = i} l q h p m z =
     let e : take i ns ≡ ns = ap (λ (k : ℕ). take k ns) (q ∙ sym l) ∙ take-length ns in
     let w : flat_map count_text (take i ns) ≡ flat_map count_text ns = ap (flat_map count_text) e in
-    let n : Put o₁ r₁ (flat_map count_text ns) o₂ r₂ = rw w at m.put in
-    let few : length (flat_map count_text ns) ≤ 168 = omega (arith, m.few, ap length w) in
-    let a : Run buf at 5 tally_word o₁ r₁ = run-start 5 (omega arith) p in
-    let b : Run buf at 173 (tally_word ++ flat_map count_text ns) o₂ r₂ = run_more 168 (omega arith) few a n in
-    let c : Run buf at 174 (tally_line ns) o₃ r₃ = run_more 1 (omega arith) (omega arith) b z in
-    c.put
+    let n : Writes b₁ b₂ (flat_map count_text ns) = rw w at m.writes in
+    let few : length (flat_map count_text ns) ≤ 168 = omega (arith, ap length w) in
+    let q₁ : Run a 5 tally_word b₁ = run-start 5 (omega arith) p in
+    let q₂ : Run a 173 (tally_word ++ flat_map count_text ns) b₂ = run_more 168 (omega arith) few q₁ n in
+    let q₃ : Run a 174 (tally_line ns) b₃ = run_more 1 (omega arith) (omega arith) q₂ z in
+    q₃.writes
 
-pub put-counted :
-    {n : ℕ} {buf o₁ o₂ : List ℕ} {at r₁ r₂ : ℕ} → at + 21 ≤ length buf → n < 18446744073709551616
-    → Put buf at (blank ∷ []) o₁ r₁ → Put o₁ r₁ (decimal n) o₂ r₂ → Put buf at (count_text n) o₂ r₂ × (r₂ ≤ at + 21)
-put-counted {n = n} {buf = buf} {o₁ = o₁} {o₂ = o₂} {at = at} {r₁ = r₁} {r₂ = r₂} h l p q =
-    (put_put buf at (blank ∷ []) o₁ r₁ (omega arith) p (decimal n) o₂ r₂ q, omega (arith, p.next, q.next, length-room n l))
+pub count_written :
+    {n : ℕ} {a b₁ b₂ : Writer} → HasRoom a 21 → n < 18446744073709551616
+    → Writes a b₁ (blank ∷ []) → Writes b₁ b₂ (decimal n) → Writes a b₂ (count_text n) × (b₂.at ≤ a.at + 21)
+count_written {n = n} {a = a} {b₁ = b₁} {b₂ = b₂} h l p q =
+    (writes-writes a b₁ (blank ∷ []) (omega arith) p b₂ (decimal n) q, omega (arith, length-room n l))
 
 -- questions
-module _ {buf o₁ o₂ o₃ o₄ o₅ o₆ : List ℕ} {at r₁ r₂ r₃ r₄ r₅ r₆ : ℕ} where
-  pub put-answer-line :
-      (w c : ℕ) (v : Reading) → at + 52 ≤ length buf → w < 18446744073709551616 → c < 18446744073709551616
-      → Put buf at (decimal w) o₁ r₁ → Put o₁ r₁ (blank ∷ []) o₂ r₂ → Put o₂ r₂ (decimal c) o₃ r₃
-      → Put o₃ r₃ (blank ∷ []) o₄ r₄ → Put o₄ r₄ (name_of v) o₅ r₅ → Put o₅ r₅ (line_end ∷ []) o₆ r₆
-      → Put buf at (answer_line w c v) o₆ r₆
-  put-answer-line w c v h fw fc p₁ p₂ p₃ p₄ p₅ p₆ =
-      let q₁ : Run buf at 20 (decimal w) o₁ r₁ = run-start 20 (length-room w fw) p₁ in
-      let q₂ : Run buf at 21 (decimal w ++ (blank ∷ [])) o₂ r₂ = run_more 1 (omega arith) (omega arith) q₁ p₂ in
-      let q₃ : Run buf at 41 (decimal w ++ (blank ∷ []) ++ decimal c) o₃ r₃ = run_more 20 (omega arith) (length-room c fc) q₂ p₃ in
-      let q₄ : Run buf at 42 (decimal w ++ (blank ∷ []) ++ decimal c ++ (blank ∷ [])) o₄ r₄ =
+module _ {a b₁ b₂ b₃ b₄ b₅ b₆ : Writer} where
+  pub answer_written :
+      (w c : ℕ) (v : Reading) → HasRoom a 52 → w < 18446744073709551616 → c < 18446744073709551616
+      → Writes a b₁ (decimal w) → Writes b₁ b₂ (blank ∷ []) → Writes b₂ b₃ (decimal c)
+      → Writes b₃ b₄ (blank ∷ []) → Writes b₄ b₅ (name_of v) → Writes b₅ b₆ (line_end ∷ [])
+      → Writes a b₆ (answer_line w c v)
+  answer_written w c v h fw fc p₁ p₂ p₃ p₄ p₅ p₆ =
+      let q₁ : Run a 20 (decimal w) b₁ = run-start 20 (length-room w fw) p₁ in
+      let q₂ : Run a 21 (decimal w ++ (blank ∷ [])) b₂ = run_more 1 (omega arith) (omega arith) q₁ p₂ in
+      let q₃ : Run a 41 (decimal w ++ (blank ∷ []) ++ decimal c) b₃ = run_more 20 (omega arith) (length-room c fc) q₂ p₃ in
+      let q₄ : Run a 42 (decimal w ++ (blank ∷ []) ++ decimal c ++ (blank ∷ [])) b₄ =
       run_more 1 (omega arith) (omega arith) q₃ p₄ in
-      let q₅ : Run buf at 51 (decimal w ++ (blank ∷ []) ++ decimal c ++ (blank ∷ []) ++ name_of v) o₅ r₅ =
+      let q₅ : Run a 51 (decimal w ++ (blank ∷ []) ++ decimal c ++ (blank ∷ []) ++ name_of v) b₅ =
       run_more 9 (omega arith) (name-room v) q₄ p₅ in
-      let q₆ : Run buf at 52 (answer_line w c v) o₆ r₆ = run_more 1 (omega arith) (omega arith) q₅ p₆ in
-      q₆.put
+      let q₆ : Run a 52 (answer_line w c v) b₆ = run_more 1 (omega arith) (omega arith) q₅ p₆ in
+      q₆.writes
 
 pub answer-room :
     (w c : ℕ) (v : Reading) → w < 18446744073709551616 → c < 18446744073709551616 → length (answer_line w c v) ≤ 52
@@ -194,17 +208,16 @@ answer-room w c v l m =
     )
 
 -- the line of question k, by what was read
-pub put-question-line :
-    (s t : List ℕ) (k : ℕ) {m l a w x : ℕ} {g : Question} {v : Reading} {buf out : List ℕ} {at r : ℕ}
-    → m ≡ rules s → l ≡ literals s → g ≡ question_at s m l k
+pub question_written :
+    (s t : List ℕ) (k : ℕ) {a w x : ℕ} {g : Question} {v : Reading} {b b' : Writer}
+    → g ≡ question_at s (rules s) (literals s) k
     → a ≡ claims s → w ≡ workers s → x ≡ get_or t (answer_at a w k) 0 → {n : ℕ} → n ≡ mark_of_value x → v ≡ reading_of n
-    → Put buf at (answer_line g.worker g.claim v) out r → Put buf at (line_of s t k) out r
+    → Writes b b' (answer_line g.worker g.claim v) → Writes b b' (line_of s t k)
 unfolding job_of
-put-question-line s t k {g = g} {v = v} em el eg ea ew ex en ev p =
+question_written s t k {v = v} eg ea ew ex en ev p =
     let y : v ≡ reading_of (mark_of_value (get_or t (answer_at (claims s) (workers s) k) 0)) =
     ev ∙ ap reading_of (en ∙ ap (λ (n : ℕ). mark_of_value n) (ex ∙ ap₂ (λ (a' w' : ℕ). get_or t (answer_at a' w' k) 0) ea ew)) in
-    let z : g ≡ question_at s (rules s) (literals s) k = eg ∙ ap₂ (λ (m' l' : ℕ). question_at s m' l' k) em el in
-    rw (z, y) at p
+    rw (eg, y) at p
 
 -- lines of questions, one more at the end
 lines_snoc :
@@ -223,9 +236,9 @@ module _ (s t : List ℕ) where
   abbrev pub first_lines : ℕ → List ℕ
   first_lines k = question_lines (job_of s) t 0 (span (question_at s (rules s) (literals s)) 0 k)
 
-  pub first_none : (buf : List ℕ) (at : ℕ) → Run buf at 0 (first_lines 0) buf at
+  pub first_none : (a : Writer) → Run a 0 (first_lines 0) a
   unfolding span question_lines
-  first_none buf at = record { put = put_none buf at; few = omega arith }
+  first_none a = record { writes = writes_none a; few = omega arith }
 
   first_snoc : (k : ℕ) → first_lines (k + 1) ≡ first_lines k ++ line_of s t k
   first_snoc k =
@@ -244,14 +257,14 @@ module _ (s t : List ℕ) where
       (omega (arith, w.asker k h, w.sized.workers_most)) (omega (arith, w.asked k h, w.sized.claims_most))
 
   pub first_more :
-      {buf out out' : List ℕ} {at r r' : ℕ} → WellFormed s → (k : ℕ) → k < questions s → at + 52 * k ≤ length buf
-      → Run buf at (52 * k) (first_lines k) out r → Put out r (line_of s t k) out' r' → Run buf at (52 * (k + 1)) (first_lines (k + 1)) out' r'
+      {a b b' : Writer} → WellFormed s → (k : ℕ) → k < questions s → HasRoom a (52 * k)
+      → Run a (52 * k) (first_lines k) b → Writes b b' (line_of s t k) → Run a (52 * (k + 1)) (first_lines (k + 1)) b'
   first_more w k l h p q =
       let m : 52 * (k + 1) ≡ 52 * k + 52 = omega arith in
       rw (first_snoc k, m) (run_more 52 h (line-room w k l) p q)
 
   pub first-whole :
-      {buf out : List ℕ} {at r k : ℕ} → k ≡ questions s → Put buf at (first_lines k) out r
-      → Put buf at (question_lines (job_of s) t 0 (job_of s).questions) out r
+      {a b : Writer} {k : ℕ} → k ≡ questions s → Writes a b (first_lines k)
+      → Writes a b (question_lines (job_of s) t 0 (job_of s).questions)
   unfolding job_of
   first-whole e p = rw e at p

@@ -20,8 +20,9 @@ use Rattle.writing.specs.Decimal.{decimal}
 use Rattle.job.specs.Job.{Job}
 use Rattle.job.specs.Checks.{check_job}
 use Rattle.job.specs.Format.{rules, literals, questions, question_at, job_of}
-use Rattle.job.specs.declared.Check.{Check}
-use Rattle.job.specs.declared.Check.TheVariants.{Accepted, Refused}
+use Rattle.job.specs.Check.{Check}
+use Rattle.job.specs.Check.{Accepted}
+use Rattle.std.specs.Prelude.{Err}
 use Rattle.job.specs.declared.Question.{Question}
 use Rattle.job.proofs.Accepted.{well_formed}
 use Rattle.job.proofs.Written.{questions_count}
@@ -245,7 +246,7 @@ text-some j t ns =
 checked-some : (x : Check) (i : List ℕ) → 1 ≤ length (listing_if x i)
 unfolding listing_if listed
 checked-some Accepted i = text-some _ _ _
-checked-some (Refused n p) i = refusal-some n p
+checked-some (Err refusal) i = refusal-some refusal.number refusal.place
 
 pub listing-some : (i : List ℕ) → 1 ≤ length (listing i)
 unfolding listing

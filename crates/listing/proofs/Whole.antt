@@ -13,7 +13,7 @@ use Rattle.job.specs.Format.{job_of, workers}
 use Rattle.job.specs.Checks.{check_job}
 use Rattle.job.specs.Accepted.{Sized}
 use Rattle.job.specs.Encoding.{encode, Valid}
-use Rattle.job.specs.declared.Check.TheVariants.{Accepted}
+use Rattle.job.specs.Check.{Accepted}
 use Rattle.job.proofs.Rows.{pass, scan_none, join}
 use Rattle.job.proofs.Accepted.{accepted}
 use Rattle.job.proofs.Encoding.{reading, encoded_well_formed}

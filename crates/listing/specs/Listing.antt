@@ -16,7 +16,7 @@
 --   listed j ws         the text of an accepted job and schedule
 --   listing i           the whole text
 --   room_length i out, room_bytes i out   what a call that is lent `out` answers as the length, and leaves as its bytes
-use Rattle.std.specs.Prelude.{ℕ, ◌+◌, length, take, drop, replicate}
+use Rattle.std.specs.Prelude.{ℕ, ◌+◌, Err, length, take, drop, replicate}
 use mathlib.Core.List.{List, [], ◌∷◌, ◌++◌, flat_map}
 use Rattle.base.specs.Choose.{pick}
 use Rattle.base.specs.Compare.{under, over}
@@ -28,8 +28,8 @@ use Rattle.job.specs.Job.{Job}
 use Rattle.job.specs.Format.{rules, literals, question_at, job_of}
 use Rattle.job.specs.Rows.{◌⨾◌, row}
 use Rattle.job.specs.Checks.{check_job}
-use Rattle.job.specs.declared.Check.{Check}
-use Rattle.job.specs.declared.Check.TheVariants.{Accepted, Refused}
+use Rattle.job.specs.Check.{Check}
+use Rattle.job.specs.Check.{Accepted}
 use Rattle.job.specs.declared.Question.{Question}
 use Rattle.table.specs.declared.Reading.{Reading}
 use Rattle.table.specs.Layout.{used, mark, answer, mark_of_value}
@@ -114,7 +114,7 @@ listed j ws = text_of j (last_table j ws) (tally (run_kinds j (first_table j) (p
 
 unfoldable pub listing_if : Check → List ℕ → List ℕ
 listing_if Accepted i = listed (job_of (job_part i)) (schedule_part i)
-listing_if (Refused number place) i = refusal_line number place
+listing_if (Err refusal) i = refusal_line refusal.number refusal.place
 
 unfoldable pub listing : List ℕ → List ℕ
 listing i = listing_if (listing_check i) i

@@ -13,7 +13,7 @@ use Rattle.job.specs.Job.{Job}
 use Rattle.job.specs.Format.{job_of}
 use Rattle.job.specs.Encoding.{encode, Valid}
 use Rattle.job.specs.Checks.{check_job}
-use Rattle.job.specs.declared.Check.TheVariants.{Accepted}
+use Rattle.job.specs.Check.{Accepted}
 use Rattle.job.specs.declared.Question.{Question}
 use Rattle.semantics.specs.Model.{Verdict, True, False, Undefined, program_of, verdict}
 use Rattle.semantics.specs.Missing.{MissingRecords}

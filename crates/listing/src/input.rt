@@ -5,7 +5,8 @@ ghost use Rattle.job.specs.Checks.{check_job};
 ghost use Rattle.calls.specs.Calls.{check_schedule};
 ghost use Rattle.listing.specs.Listing.{job_end, listing_check};
 
-use job::{Check, bytes};
+use calls::schedule;
+use job::{Check, Job, Refusal, bytes, checks};
 
 // The longest input.
 pub const MOST_INPUT: usize = 65536;
@@ -21,11 +22,7 @@ pub fn job_end(input: &[u8]) -> usize
     if n < 4 {
         return n;
     }
-    let end = bytes::word(input, 0);
-    if n < end {
-        return n;
-    }
-    end
+    bytes::word(input, 0).min(n)
 }
 
 // The checks of a listing: the input's length, the job, the schedule.
@@ -33,22 +30,19 @@ pub fn check_input(input: &[u8]) -> Check
     ensures { result ≡ listing_check input.now }
 {
     if MOST_INPUT < input.len() {
-        return Check::Refused {
+        return Err(Refusal {
             number: 1,
             place: TOO_LONG,
-        };
+        });
     }
-    let end = job_end(input);
-    check_parts(&input[..end], &input[end..])
+    let (job, schedule) = input.split_at(job_end(input));
+    check_parts(job, schedule)
 }
 
 // The checks of the input's two parts.
 fn check_parts(job: &[u8], schedule: &[u8]) -> Check
     ensures { result ≡ check_job job.now ⨾ check_schedule job.now schedule.now }
 {
-    let check = job::checks::check_job(job);
-    let Check::Accepted = check else {
-        return check;
-    };
-    calls::schedule::check_schedule(job, schedule)
+    checks::check_job(job)?;
+    schedule::check_schedule(&Job::of_accepted(job), schedule)
 }

@@ -1,8 +1,7 @@
 // The whole listing, into a buffer that the caller lends. The contracts cite specs/Listing.
 ghost use Rattle.std.specs.Prelude.{◌≡◌, ◌≤◌, length, replicate};
 ghost use Rattle.writing.specs.Written.{Put};
-ghost use Rattle.job.specs.Accepted.{WellFormed};
-ghost use Rattle.job.specs.Rows.{◌⨾◌};
+ghost use Rattle.writing.specs.Writes.{Writes, HasRoom};
 ghost use Rattle.job.specs.Format.{job_of};
 ghost use Rattle.table.specs.Layout.{most_words, used};
 ghost use Rattle.calls.specs.Calls.{Named};
@@ -10,74 +9,64 @@ ghost use Rattle.listing.specs.Listing.{most_input, most_text, listed, listing_c
 ghost use Rattle.listing.specs.Told.{Told};
 
 use crate::{Listed, input, lines, play};
-use job::Check;
+use job::checks::MOST_CLAIMS;
+use job::{Check, Job, Refusal};
 use table::words;
+use writing::Writer;
 
 // Enough for the text of every input.
 pub const MOST_TEXT: usize = 196608;
 
 // The text of an accepted job, by way of a table of zeros.
-fn list_on(job: &[u8], named: &[u8], table: &mut [u32], out: &mut [u8]) -> usize
-    requires well_formed { WellFormed job.now }
+fn list_on(job: &Job, named: &[u8], table: &mut [u32], out: &mut Writer)
     requires named { Named job.now named.now }
-    requires named_len_bound { length named.now ≤ most_input }
-    requires table_value { table.old ≡ replicate (used (job_of job.now)) 0 }
-    requires most_text_in_bounds { most_text ≤ length out.old }
-    ensures { Put out.old 0 (listed (job_of job.now) named.now) out.new result }
+    requires short { length named.now ≤ most_input }
+    requires zeros { table.old ≡ replicate (used (job_of job.now)) 0 }
+    requires fits { HasRoom out.old most_text }
+    ensures { Writes out.old out.new (listed (job_of job.now) named.now) }
 {
     let counts = play::play(job, named, table);
-    lines::put_text(out, job, table, &counts)
-}
-
-// Zeros for the table of every job.
-fn blank_words() -> [u32; words::MOST_WORDS]
-    ensures { result ≡ replicate most_words 0 }
-{
-    [0u32; words::MOST_WORDS]
+    lines::put_text(out, job, table, &counts);
 }
 
 // The text of an accepted job and schedule.
-fn list_accepted(job: &[u8], named: &[u8], out: &mut [u8]) -> usize
-    requires well_formed { WellFormed job.now }
+fn list_accepted(job: &Job, named: &[u8], out: &mut Writer)
     requires named { Named job.now named.now }
-    requires named_len_bound { length named.now ≤ most_input }
-    requires most_text_in_bounds { most_text ≤ length out.old }
-    ensures { Put out.old 0 (listed (job_of job.now) named.now) out.new result }
+    requires short { length named.now ≤ most_input }
+    requires fits { HasRoom out.old most_text }
+    ensures { Writes out.old out.new (listed (job_of job.now) named.now) }
 {
-    let mut table = blank_words();
+    prove!(job.claim_count() <= MOST_CLAIMS);
+    let mut table = [0u32; words::MOST_WORDS];
     let used = words::used_words(job);
-    list_on(job, named, &mut table[..used], out)
+    list_on(job, named, &mut table[..used], out);
 }
 
 // The text of an input whose check is made.
-fn list_checked(input: &[u8], check: Check, out: &mut [u8]) -> usize
-    requires check_value { check ≡ listing_check input.now }
-    requires most_text_in_bounds { most_text ≤ length out.old }
-    ensures { Put out.old 0 (listing_if check input.now) out.new result }
+fn list_checked(input: &[u8], check: Check, out: &mut Writer)
+    requires checked { check ≡ listing_check input.now }
+    requires fits { HasRoom out.old most_text }
+    ensures { Writes out.old out.new (listing_if check input.now) }
 {
     match check {
-        Check::Refused { number, place } => lines::put_refusal(out, 0, number, place),
-        Check::Accepted => {
-            let end = input::job_end(input);
-            list_accepted(&input[..end], &input[end..], out)
+        Err(Refusal { number, place }) => lines::put_refusal(out, number, place),
+        Ok(()) => {
+            let (job, schedule) = input.split_at(input::job_end(input));
+            let job = Job::of_accepted(job);
+            list_accepted(&job, schedule, out);
         }
     }
 }
 
-// The check of a call without room: the input's own refusal, or else 16.
-fn check_without_room(check: Check) -> Check
-    ensures { result ≡ check ⨾ Check.Refused 16 most_text }
+// That text at the start of `out`; its length.
+fn write_text(input: &[u8], check: Check, out: &mut [u8]) -> usize
+    requires checked { check ≡ listing_check input.now }
+    requires fits { most_text ≤ length out.old }
+    ensures { Put out.old 0 (listing_if check input.now) out.new result }
 {
-    match check {
-        Check::Refused {
-            number: _,
-            place: _,
-        } => check,
-        Check::Accepted => Check::Refused {
-            number: 16,
-            place: MOST_TEXT,
-        },
-    }
+    let mut text = Writer::new(out);
+    list_checked(input, check, &mut text);
+    text.at
 }
 
 // Lists the input at the start of `out`; where that has under MOST_TEXT bytes it is refused, nothing is written, and the length is 0.
@@ -90,13 +79,17 @@ pub fn list(input: &[u8], out: &mut [u8]) -> Listed
 {
     let check = input::check_input(input);
     if out.len() < MOST_TEXT {
+        let short = Refusal {
+            number: 16,
+            place: MOST_TEXT,
+        };
         return Listed {
-            check: check_without_room(check),
+            check: check.and(Err(short)),
             length: 0,
         };
     }
     Listed {
         check,
-        length: list_checked(input, check, out),
+        length: write_text(input, check, out),
     }
 }

@@ -1,101 +1,72 @@
 // The numbers of a line. The contracts cite specs/Pieces.
-ghost use Rattle.std.specs.Prelude.{◌≡◌, ◌≤◌, length};
+ghost use Rattle.std.specs.Prelude.{◌≡◌, ◌&&◌, ℕ, ◌<◌, ◌≤◌, true, false, length, slice_index, option_copied};
+ghost use Rattle.base.specs.Compare.{under, not_below};
 ghost use Rattle.lines.specs.Grammar.{is_digit};
-ghost use Rattle.makejob.specs.Pieces.{not_digit, first_at, number_from, digits_of, value_from, value_at, first_past};
+ghost use Rattle.makejob.specs.Pieces.{number_in, behind_number, value_from, first_past};
 
 use lines::grammar;
 
-// A number's digits, from byte `start` to before byte `end`; none where these are equal.
-#[derive(Clone, Copy)]
-pub struct Digits {
-    pub start: usize,
-    pub end: usize,
+// How many bytes of a line stand before its first digit.
+fn before_digit(line: &[u8]) -> usize
+    ensures fits { result ≤ length line.now }
+    ensures before { (k : ℕ) → k < result → is_digit (slice_index line.now k) ≡ false }
+    ensures found { result < length line.now → is_digit (slice_index line.now result) ≡ true }
+{
+    line.iter()
+        .position(|&b| grammar::is_digit(b))
+        .unwrap_or(line.len())
 }
 
-// The first digit from `at` on, or the line's end.
-fn first_from(line: &[u8], at: usize) -> usize
-    requires { at ≤ length line.now }
-    ensures { (result ≡ first_at is_digit line.now at) × (result ≤ length line.now) }
+// How many digits a line starts with.
+fn leading_digits(line: &[u8]) -> usize
+    ensures fits { result ≤ length line.now }
+    ensures before { (k : ℕ) → k < result → is_digit (slice_index line.now k) ≡ true }
+    ensures found { result < length line.now → is_digit (slice_index line.now result) ≡ false }
 {
-    let mut start = at;
-    while start < line.len() {
-        if grammar::is_digit(line[start]) {
-            return start;
-        }
-        start += 1;
-    }
-    start
+    line.iter()
+        .position(|&b| !grammar::is_digit(b))
+        .unwrap_or(line.len())
 }
 
-// The end of the digits that stand at `at`.
-fn end_from(line: &[u8], at: usize) -> usize
-    requires { at ≤ length line.now }
-    ensures { (result ≡ first_at not_digit line.now at) × (at ≤ result) × (result ≤ length line.now) }
+// The digits of a line's first number, and what stands behind them; no digits where the line has none.
+pub fn next(line: &[u8]) -> (&[u8], &[u8])
+    ensures digits { result.0.now ≡ number_in line.now }
+    ensures behind { result.1.now ≡ behind_number line.now }
 {
-    let mut end = at;
-    while end < line.len() {
-        if !grammar::is_digit(line[end]) {
-            return end;
-        }
-        end += 1;
-    }
-    end
-}
-
-// The next number from `at` on.
-pub fn next(line: &[u8], at: usize) -> Digits
-    requires { at ≤ length line.now }
-    ensures value { result ≡ number_from line.now at }
-    ensures start_le_end { (result.start ≤ result.end) × (result.end ≤ length line.now) }
-{
-    let start = first_from(line, at);
-    Digits {
-        start,
-        end: end_from(line, start),
-    }
-}
-
-pub fn bytes_of(line: &[u8], number: Digits) -> &[u8]
-    requires { (number.start ≤ number.end) × (number.end ≤ length line.now) }
-    ensures { result.now ≡ digits_of line.now number }
-{
-    let start = number.start;
-    let end = number.end;
-    &line[start..end]
+    let from = &line[before_digit(line)..];
+    from.split_at(leading_digits(from))
 }
 
 // 65,536, which is past every limit, stands for what is above it.
-fn value_of(bytes: &[u8]) -> usize
-    ensures value { result ≡ value_from 0 bytes.now }
-    ensures upper_bound { result ≤ 65536 }
+pub fn value(digits: &[u8]) -> usize
+    ensures value { result ≡ value_from 0 digits.now }
+    ensures most { result ≤ 65536 }
 {
     let mut value: usize = 0;
-    for i in 0..bytes.len() {
-        value = grammar::with_digit(value, bytes[i]);
+    for &b in digits {
+        value = grammar::with_digit(value, b);
     }
     value
 }
 
-pub fn value(line: &[u8], number: Digits) -> usize
-    requires { (number.start ≤ number.end) × (number.end ≤ length line.now) }
-    ensures value { result ≡ value_at line.now number }
-    ensures upper_bound { result ≤ 65536 }
+// Whether there are digits, of a number that is not below the bound.
+fn is_past(digits: &[u8], bound: usize) -> bool
+    ensures { result ≡ (under 0 (length digits.now) && not_below (value_from 0 digits.now) bound) }
 {
-    value_of(bytes_of(line, number))
+    !digits.is_empty() && bound <= value(digits)
 }
 
-// The first number that is not below the bound; else no digits. Each number has a byte at least.
-pub fn first_past(line: &[u8], bound: usize) -> Digits
-    ensures value { result ≡ first_past line.now bound }
-    ensures start_le_end { (result.start ≤ result.end) × (result.end ≤ length line.now) }
+// The digits of the first number that is not below the bound.
+pub fn first_past(line: &[u8], bound: usize) -> Option<&[u8]>
+    ensures { option_copied result ≡ first_past line.now bound }
 {
-    let mut number = next(line, 0);
-    for _ in 0..line.len() {
-        if bound <= value(line, number) {
-            return number;
+    let mut rest = line;
+    while !rest.is_empty() {
+        let (digits, behind) = next(rest);
+        if is_past(digits, bound) {
+            return Some(digits);
         }
-        let end = number.end;
-        number = next(line, end);
+        rest = behind;
     }
-    number
+    None
 }

@@ -33,25 +33,25 @@ fn say_not_below(err: Stderr, thing: &[u8], number: &[u8], count: usize) {
 
 // Of line 1: claims over their limit, or else workers.
 fn say_first(err: Stderr, line: &[u8]) {
-    let claims = digits::next(line, 0);
-    if checks::MOST_CLAIMS < digits::value(line, claims) {
+    let (claims, behind) = digits::next(line);
+    if checks::MOST_CLAIMS < digits::value(claims) {
         say_most(err, b"4,096 claims");
         return;
     }
-    let workers = digits::next(line, claims.end);
-    say_workers(err, digits::bytes_of(line, workers));
+    let (workers, _) = digits::next(behind);
+    say_workers(err, workers);
 }
 
 // The worker, or else the claim, or else the count of questions.
 fn say_question(err: Stderr, line: &[u8], claims: usize, workers: usize) {
-    let worker = digits::next(line, 0);
-    if workers <= digits::value(line, worker) {
-        say_not_below(err, b"worker", digits::bytes_of(line, worker), workers);
+    let (worker, behind) = digits::next(line);
+    if workers <= digits::value(worker) {
+        say_not_below(err, b"worker", worker, workers);
         return;
     }
-    let claim = digits::next(line, worker.end);
-    if claims <= digits::value(line, claim) {
-        say_not_below(err, b"claim", digits::bytes_of(line, claim), claims);
+    let (claim, _) = digits::next(behind);
+    if claims <= digits::value(claim) {
+        say_not_below(err, b"claim", claim, claims);
         return;
     }
     say_most(err, b"1,024 questions");
@@ -64,21 +64,19 @@ fn say_rule(err: Stderr, line: &[u8], number: usize, claims: usize) {
         say_most(err, b"6,144 rules");
         return;
     }
-    let claim = digits::first_past(line, claims);
-    if claim.start < claim.end {
-        say_not_below(err, b"claim", digits::bytes_of(line, claim), claims);
-        return;
+    match digits::first_past(line, claims) {
+        Some(claim) => say_not_below(err, b"claim", claim, claims),
+        None => say_most(err, b"16,384 literals"),
     }
-    say_most(err, b"16,384 literals");
 }
 
 // Of a line behind the first, which has the counts.
 fn say_later(err: Stderr, line: &[u8], number: usize, first: &[u8]) {
-    let a = digits::next(first, 0);
-    let t = digits::next(first, a.end);
-    let claims = digits::value(first, a);
+    let (claims, behind) = digits::next(first);
+    let claims = digits::value(claims);
     if line::first_byte(line) == b'a' {
-        say_question(err, line, claims, digits::value(first, t));
+        let (workers, _) = digits::next(behind);
+        say_question(err, line, claims, digits::value(workers));
     } else {
         say_rule(err, line, number, claims);
     }

@@ -13,15 +13,16 @@ mod sort;
 mod typed;
 
 use console::input;
-use job::{Check, checks};
+use job::{Refusal, checks};
 use said::say;
 use std::io::{Stderr, Stdout};
 
 // Check 14 or 15 in words. 16 can't come, since the buffer has room for the largest job.
-fn say_refusal(err: Stderr, text: &[u8], number: u32, line: usize) {
+fn say_refusal(err: Stderr, text: &[u8], refusal: Refusal) {
+    let line = refusal.place;
     say(err, b"makejob: line ");
     said::say_number(err, line);
-    if number == 14 {
+    if refusal.number == 14 {
         misfit::say_misfit(err, text, line);
     } else {
         limits::say_fault(err, text, line);
@@ -47,12 +48,9 @@ fn make(out: Stdout, err: Stderr, text: &[u8], job: &mut [u8]) {
         );
         return;
     }
-    let made = typed::make_job(text, job);
-    let check = made.check;
-    let length = made.length;
-    match check {
-        Check::Accepted => write_job(out, err, &job[..length]),
-        Check::Refused { number, place } => say_refusal(err, text, number, place),
+    match typed::make_job(text, job) {
+        Ok(length) => write_job(out, err, &job[..length]),
+        Err(refusal) => say_refusal(err, text, refusal),
     }
 }
 
@@ -61,14 +59,12 @@ fn main(rt: HostRuntime) {
     let mut stdin = rt.stdin();
     let mut text = input::room();
     let mut out = [0u8; checks::MOST_BYTES];
-    let read = input::read_input(&mut stdin, &mut text);
-    let length = read.length;
-    if !read.sound {
+    let Ok(length) = input::read_input(&mut stdin, &mut text) else {
         say(
             err,
             b"makejob: standard input can't be read; give a file of lines, as in `makejob < my.rules`\n",
         );
         return;
-    }
+    };
     make(rt.stdout(), err, &text[..length], &mut out);
 }

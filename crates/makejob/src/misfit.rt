@@ -39,7 +39,7 @@ fn fault_at(sort: Sort, at: usize) -> usize
 fn say_line(err: Stderr, line: &[u8], at: usize)
     requires { at ≤ length line.now }
 {
-    if line.len() == 0 {
+    if line.is_empty() {
         return;
     }
     say(err, b": `");

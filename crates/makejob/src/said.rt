@@ -1,6 +1,6 @@
 // What is said on standard error: words, numbers, and parts of the text. No contract can say which bytes a call of the system writes,
 // so a function that only writes words has none, here and in the modules above: it is safe, it ends, and a stored test holds its words.
-ghost use Rattle.std.specs.Prelude.{◌≡◌, ◌≤◌};
+ghost use Rattle.std.specs.Prelude.{◌≡◌};
 ghost use Rattle.makejob.specs.Faults.{shown as shown_of};
 
 use std::io::Stderr;
@@ -21,30 +21,18 @@ pub(crate) fn say_number(err: Stderr, number: usize) {
 fn printable(b: u8) -> u8
     ensures { result ≡ shown_of b }
 {
-    if b < 32 {
-        return b'?';
+    match b {
+        b' '..=b'~' => b,
+        _ => b'?',
     }
-    if 126 < b {
-        return b'?';
-    }
-    b
-}
-
-fn least(a: usize, b: usize) -> usize
-    ensures { (result ≤ a) × (result ≤ b) }
-{
-    if a < b {
-        return a;
-    }
-    b
 }
 
 // The first bytes of a part, and `..` where there are more.
 pub(crate) fn say_part(err: Stderr, part: &[u8]) {
-    let n = least(part.len(), SHOWN);
+    let n = part.len().min(SHOWN);
     let mut shown = [0u8; SHOWN];
-    for i in 0..n {
-        shown[i] = printable(part[i]);
+    for (place, &b) in shown.iter_mut().zip(part) {
+        *place = printable(b);
     }
     say(err, &shown[..n]);
     if n < part.len() {

@@ -5,8 +5,8 @@ ghost use Rattle.makejob.specs.Faults.{reach_of};
 
 use lines::{State, grammar};
 
-// What fits ends before byte `at`; whole where only the line feed is to come.
-#[derive(Clone, Copy)]
+// What fits ends before byte `at`; whole where only the line feed is to come. `at` counts either way, so this is no Option.
+#[derive(Clone, Copy, Debug, PartialEq, Eq)]
 pub struct Reach {
     pub at: usize,
     pub whole: bool,
@@ -17,18 +17,19 @@ fn start_of(first: bool) -> State
     ensures { result ≡ pick first State.FirstLine State.AnyLine }
 {
     if first {
-        return State::FirstLine;
+        State::FirstLine
+    } else {
+        State::AnyLine
     }
-    State::AnyLine
 }
 
 pub fn reach_of(line: &[u8], first: bool) -> Reach
     ensures value { result ≡ reach_of first line.now }
-    ensures at_in_bounds { result.at ≤ length line.now }
+    ensures within { result.at ≤ length line.now }
 {
     let mut state = start_of(first);
-    for i in 0..line.len() {
-        let next = grammar::step(state, line[i]);
+    for (i, &b) in line.iter().enumerate() {
+        let next = grammar::step(state, b);
         if grammar::is_bad(next) {
             return Reach {
                 at: i,

@@ -6,7 +6,7 @@ use crate::line;
 use crate::shape::Reach;
 use lines::grammar;
 
-#[derive(Clone, Copy)]
+#[derive(Clone, Copy, Debug, PartialEq, Eq)]
 pub enum Sort {
     // No line at all; one without a byte; one that lacks only its line feed.
     Empty,
@@ -27,43 +27,31 @@ fn is_late(text: &[u8], line: usize) -> bool
         return false;
     }
     let before = line::line_of(text, line - 1);
-    if line::first_byte(before) != b'a' {
-        return false;
-    }
     let typed = line::line_of(text, line);
-    grammar::is_digit(line::first_byte(typed))
+    line::first_byte(before) == b'a' && grammar::is_digit(line::first_byte(typed))
 }
 
 // Of the byte that doesn't fit, and the one before it.
 fn sort_of_byte(before: u8, b: u8) -> Sort
     ensures { result ≡ sort_of_byte before b }
 {
-    if b == b'\r' {
-        return Sort::Return;
+    match b {
+        b'\r' => Sort::Return,
+        b'0'..=b'9' if before == b'0' => Sort::LeadingZero,
+        _ => Sort::Other,
     }
-    if before != b'0' {
-        return Sort::Other;
-    }
-    if grammar::is_digit(b) {
-        return Sort::LeadingZero;
-    }
-    Sort::Other
 }
 
 // Of a line that has nothing behind what fits.
 fn sort_at_end(line: &[u8], whole: bool, ended: bool) -> Sort
     ensures { result ≡ sort_at_end line.now whole ended }
 {
-    if 0 < line.len() {
-        if whole {
-            return Sort::Unended;
-        }
-        return Sort::Other;
+    match (line.is_empty(), whole, ended) {
+        (false, true, _) => Sort::Unended,
+        (false, false, _) => Sort::Other,
+        (true, _, true) => Sort::Blank,
+        (true, _, false) => Sort::Empty,
     }
-    if ended {
-        return Sort::Blank;
-    }
-    Sort::Empty
 }
 
 fn sort_in(line: &[u8], reach: Reach, ended: bool) -> Sort

@@ -8,4 +8,3 @@ pub mod Alternating
 pub mod Starting
 pub mod Written
 pub mod Plain
-pub mod Rooming

@@ -1,3 +1,4 @@
 pub mod Output
 pub mod Rounds
 pub mod Rooms
+pub mod Judged

@@ -1,17 +1,16 @@
 // The evaluation of a job: the verdict of every claim in its well-founded model. The contracts cite semantics/specs/Model and specs/Output.
 ghost use Rattle.std.specs.Prelude.{◌≡◌, ◌≤◌, length};
-ghost use Rattle.job.specs.Accepted.{WellFormed};
 ghost use Rattle.job.specs.Format.{claims, job_of};
-ghost use Rattle.job.specs.declared.Check.TheVariants.{Accepted};
+ghost use Rattle.job.specs.Check.{Accepted};
 ghost use Rattle.semantics.specs.Model.{program_of};
 ghost use Rattle.model.specs.Output.{OutputBytes, output_of, Evaluated};
 
 use crate::rooms;
-use job::{Check, checks, format};
+use job::{Check, Job, Refusal, checks, format};
 
 // The evaluation of an accepted job.
-pub fn evaluate_accepted(job: &[u8], out: &mut [u8])
-    requires { WellFormed job.now × (claims job.now ≤ length out.old) }
+pub fn evaluate_accepted(job: &Job, out: &mut [u8])
+    requires { claims job.now ≤ length out.old }
     ensures output_bytes { OutputBytes job.now (program_of (job_of job.now)) out.old out.new }
     ensures out_after { out.new ≡ output_of Accepted job.now out.old }
 {
@@ -23,17 +22,14 @@ pub fn evaluate_accepted(job: &[u8], out: &mut [u8])
 pub fn evaluate(job: &[u8], out: &mut [u8]) -> Check
     ensures { Evaluated job.now out.old result out.new }
 {
-    let check = checks::check_job(job);
-    let Check::Accepted = check else {
-        return check;
-    };
+    checks::check_job(job)?;
     let n = format::claim_count(job);
     if out.len() < n {
-        return Check::Refused {
+        return Err(Refusal {
             number: 13,
             place: n,
-        };
+        });
     }
-    evaluate_accepted(job, out);
-    Check::Accepted
+    evaluate_accepted(&Job::of_accepted(job), out);
+    Ok(())
 }

@@ -1,17 +1,18 @@
 // Room for the evaluation, by the size of the job: the arrays are cleared in each call, so a small job takes small ones. The contracts
 // cite specs/Output.
-ghost use Rattle.std.specs.Prelude.{◌≡◌, true, ◌≤◌, length, replicate};
+ghost use Rattle.std.specs.Prelude.{◌≡◌, true, ◌*◌, ◌<◌, ◌≤◌, length};
 ghost use Rattle.job.specs.Accepted.{WellFormed};
-ghost use Rattle.job.specs.Job.{most_claims, most_rules, most_literals};
 ghost use Rattle.job.specs.Format.{claims};
-ghost use Rattle.job.specs.declared.Check.TheVariants.{Accepted};
+ghost use Rattle.job.specs.Check.{Accepted};
 ghost use Rattle.model.specs.Output.{output_of};
 ghost use Rattle.model.specs.Rooms.{Within};
 ghost use Rattle.model.specs.Rounds.{Unused};
 
 use crate::{alternate, verdicts};
+use counters::key_queue::KeyQueue;
 use counters::occurrences;
-use job::{checks, format};
+use counters::tables::Tables;
+use job::{Job, checks};
 
 // The rooms: at most so many claims, rules and positions (literals), and one more than there are keys.
 const TINY_CLAIMS: usize = 16;
@@ -40,7 +41,7 @@ const LARGE_KEYS: usize = 8193;
 
 // The evaluation, in tables that nothing was done with yet.
 fn evaluate_in(
-    job: &[u8],
+    job: &Job,
     start: &mut [u16],
     occ: &mut [u16],
     tail: &mut [u16],
@@ -48,233 +49,101 @@ fn evaluate_in(
     fail: &mut [u16],
     k: &mut [u8],
     u: &mut [u8],
-    queue: &mut [u16],
-    list: &mut [u16],
+    queue: &mut KeyQueue<'_>,
+    list: &mut KeyQueue<'_>,
     out: &mut [u8],
 )
-    requires well_formed { WellFormed job.now }
-    requires unused { Unused job.now start.old occ.old tail.old need.old fail.old k.old u.old queue.old list.old }
-    requires job_in_bounds { claims job.now ≤ length out.old }
+    requires unused { Unused job.now start.old occ.old tail.old need.old fail.old k.old u.old queue.old.keys.now list.old.keys.now }
+    requires room { claims job.now ≤ length out.old }
     ensures { out.new ≡ output_of Accepted job.now out.old }
 {
+    let claims = job.claim_count();
+    prove!(k.len() == claims);
     occurrences::prepare(job, start, occ, tail, need, fail);
-    alternate::alternate(job, start, occ, tail, need, fail, k, u, queue, list);
+    let tables = Tables {
+        job,
+        start,
+        occ,
+        tail,
+    };
+    alternate::alternate(&tables, need, fail, k, u, queue, list);
     verdicts::write(k, u, out);
 }
 
-// Arrays of zeros for a tiny job: for keys (one more than it can have), positions, rules and claims.
-fn tiny_keys() -> [u16; TINY_KEYS]
-    ensures { result ≡ replicate 33 0 }
-{
-    [0u16; TINY_KEYS]
-}
-
-fn tiny_positions() -> [u16; TINY_POSITIONS]
-    ensures { result ≡ replicate 64 0 }
-{
-    [0u16; TINY_POSITIONS]
-}
-
-fn tiny_rules() -> [u16; TINY_RULES]
-    ensures { result ≡ replicate 24 0 }
-{
-    [0u16; TINY_RULES]
-}
-
-fn tiny_claims() -> [u8; TINY_CLAIMS]
-    ensures { result ≡ replicate 16 0 }
-{
-    [0u8; TINY_CLAIMS]
-}
-
-// The evaluation of a job with at most 16 claims, 24 rules and 64 literals.
-fn evaluate_tiny(job: &[u8], out: &mut [u8])
-    requires well_formed { WellFormed job.now }
-    requires within { (Within job.now 16 24 64) × (claims job.now ≤ length out.old) }
+// The evaluation of a job with at most so many claims, rules and positions, in arrays for so many.
+fn evaluate_sized<
+    const CLAIMS: usize,
+    const RULES: usize,
+    const POSITIONS: usize,
+    const KEYS: usize,
+>(job: &Job, out: &mut [u8])
+    requires within { (Within job.now CLAIMS RULES POSITIONS) × (claims job.now ≤ length out.old) }
+    requires enough { (CLAIMS ≤ RULES) × (2 * CLAIMS < KEYS) }
+    requires small { (RULES < 65536) × (POSITIONS < 65536) × (KEYS < 65536) }
     ensures { out.new ≡ output_of Accepted job.now out.old }
 {
-    let n = format::claim_count(job);
-    let mut start = tiny_keys();
-    let mut occ = tiny_positions();
-    let mut tail = tiny_rules();
-    let mut need = tiny_rules();
-    let mut fail = tiny_rules();
-    let mut k = tiny_claims();
-    let mut u = tiny_claims();
-    let mut queue = tiny_keys();
-    let mut list = tiny_keys();
+    let n = job.claim_count();
+    let mut start = [0u16; KEYS];
+    let mut occ = [0u16; POSITIONS];
+    let mut tail = [0u16; RULES];
+    let mut need = [0u16; RULES];
+    let mut fail = [0u16; RULES];
+    let mut k = [0u8; CLAIMS];
+    let mut u = [0u8; CLAIMS];
+    let mut queue_keys = [0u16; KEYS];
+    let mut list_keys = [0u16; KEYS];
+    let mut queue = KeyQueue {
+        keys: &mut queue_keys,
+        len: 0,
+    };
+    let mut list = KeyQueue {
+        keys: &mut list_keys,
+        len: 0,
+    };
     evaluate_in(
         job,
-        &mut start[..],
-        &mut occ[..],
-        &mut tail[..],
-        &mut need[..],
-        &mut fail[..],
+        &mut start,
+        &mut occ,
+        &mut tail,
+        &mut need,
+        &mut fail,
         &mut k[..n],
         &mut u[..n],
-        &mut queue[..],
-        &mut list[..],
-        out,
-    );
-}
-
-// The same for a middle one.
-fn middle_keys() -> [u16; MIDDLE_KEYS]
-    ensures { result ≡ replicate 2049 0 }
-{
-    [0u16; MIDDLE_KEYS]
-}
-
-fn middle_positions() -> [u16; MIDDLE_POSITIONS]
-    ensures { result ≡ replicate 4096 0 }
-{
-    [0u16; MIDDLE_POSITIONS]
-}
-
-fn middle_rules() -> [u16; MIDDLE_RULES]
-    ensures { result ≡ replicate 1536 0 }
-{
-    [0u16; MIDDLE_RULES]
-}
-
-fn middle_claims() -> [u8; MIDDLE_CLAIMS]
-    ensures { result ≡ replicate 1024 0 }
-{
-    [0u8; MIDDLE_CLAIMS]
-}
-
-// The evaluation of a job with at most 1,024 claims, 1,536 rules and 4,096 literals.
-fn evaluate_middle(job: &[u8], out: &mut [u8])
-    requires well_formed { WellFormed job.now }
-    requires within { (Within job.now 1024 1536 4096) × (claims job.now ≤ length out.old) }
-    ensures { out.new ≡ output_of Accepted job.now out.old }
-{
-    let n = format::claim_count(job);
-    let mut start = middle_keys();
-    let mut occ = middle_positions();
-    let mut tail = middle_rules();
-    let mut need = middle_rules();
-    let mut fail = middle_rules();
-    let mut k = middle_claims();
-    let mut u = middle_claims();
-    let mut queue = middle_keys();
-    let mut list = middle_keys();
-    evaluate_in(
-        job,
-        &mut start[..],
-        &mut occ[..],
-        &mut tail[..],
-        &mut need[..],
-        &mut fail[..],
-        &mut k[..n],
-        &mut u[..n],
-        &mut queue[..],
-        &mut list[..],
-        out,
-    );
-}
-
-// The same for any.
-fn large_keys() -> [u16; LARGE_KEYS]
-    ensures { result ≡ replicate 8193 0 }
-{
-    [0u16; LARGE_KEYS]
-}
-
-fn large_positions() -> [u16; LARGE_POSITIONS]
-    ensures { result ≡ replicate most_literals 0 }
-{
-    [0u16; LARGE_POSITIONS]
-}
-
-fn large_rules() -> [u16; LARGE_RULES]
-    ensures { result ≡ replicate most_rules 0 }
-{
-    [0u16; LARGE_RULES]
-}
-
-fn large_claims() -> [u8; LARGE_CLAIMS]
-    ensures { result ≡ replicate most_claims 0 }
-{
-    [0u8; LARGE_CLAIMS]
-}
-
-// The evaluation of every job.
-fn evaluate_large(job: &[u8], out: &mut [u8])
-    requires well_formed { WellFormed job.now }
-    requires within { (Within job.now most_claims most_rules most_literals) × (claims job.now ≤ length out.old) }
-    ensures { out.new ≡ output_of Accepted job.now out.old }
-{
-    let n = format::claim_count(job);
-    let mut start = large_keys();
-    let mut occ = large_positions();
-    let mut tail = large_rules();
-    let mut need = large_rules();
-    let mut fail = large_rules();
-    let mut k = large_claims();
-    let mut u = large_claims();
-    let mut queue = large_keys();
-    let mut list = large_keys();
-    evaluate_in(
-        job,
-        &mut start[..],
-        &mut occ[..],
-        &mut tail[..],
-        &mut need[..],
-        &mut fail[..],
-        &mut k[..n],
-        &mut u[..n],
-        &mut queue[..],
-        &mut list[..],
+        &mut queue,
+        &mut list,
         out,
     );
 }
 
 // Whether a job has at most so many claims, rules and literals.
-fn fits(job: &[u8], claims: usize, rules: usize, literals: usize) -> bool
-    requires { WellFormed job.now }
-    ensures { result ≡ true → Within job.now claims rules literals }
+fn fits(job: &Job, claims: usize, rules: usize, literals: usize) -> bool
+    ensures within { result ≡ true → Within job.now claims rules literals }
+    ensures accepted { WellFormed job.now }
 {
-    if claims < format::claim_count(job) {
-        return false;
-    }
-    if rules < format::rule_count(job) {
-        return false;
-    }
-    format::literal_count(job) <= literals
+    job.claim_count() <= claims && job.rule_count() <= rules && job.literal_count() <= literals
 }
 
-// The evaluation of a job that is not tiny.
-fn evaluate_wide(job: &[u8], out: &mut [u8])
-    requires well_formed { WellFormed job.now }
-    requires job_in_bounds { claims job.now ≤ length out.old }
+// The evaluation of a job that is not tiny. It stays a function of its own, with a frame of its own: so a tiny job doesn't touch the
+// pages of a large one.
+#[inline(never)]
+fn evaluate_wide(job: &Job, out: &mut [u8])
+    requires room { claims job.now ≤ length out.old }
     ensures { out.new ≡ output_of Accepted job.now out.old }
 {
     if fits(job, MIDDLE_CLAIMS, MIDDLE_RULES, MIDDLE_POSITIONS) {
-        evaluate_middle(job, out);
+        evaluate_sized::<MIDDLE_CLAIMS, MIDDLE_RULES, MIDDLE_POSITIONS, MIDDLE_KEYS>(job, out);
     } else {
-        evaluate_large(job, out);
+        evaluate_sized::<LARGE_CLAIMS, LARGE_RULES, LARGE_POSITIONS, LARGE_KEYS>(job, out);
     }
 }
 
-// The evaluation. What is not tiny is left to one function, called from several places: then the compiler gives it a frame of its own,
-// and a tiny job doesn't touch the pages of a large one.
-pub fn evaluate(job: &[u8], out: &mut [u8])
-    requires well_formed { WellFormed job.now }
-    requires job_in_bounds { claims job.now ≤ length out.old }
+pub fn evaluate(job: &Job, out: &mut [u8])
+    requires room { claims job.now ≤ length out.old }
     ensures { out.new ≡ output_of Accepted job.now out.old }
 {
-    if TINY_CLAIMS < format::claim_count(job) {
+    if fits(job, TINY_CLAIMS, TINY_RULES, TINY_POSITIONS) {
+        evaluate_sized::<TINY_CLAIMS, TINY_RULES, TINY_POSITIONS, TINY_KEYS>(job, out);
+    } else {
         evaluate_wide(job, out);
-        return;
     }
-    if TINY_RULES < format::rule_count(job) {
-        evaluate_wide(job, out);
-        return;
-    }
-    if TINY_POSITIONS < format::literal_count(job) {
-        evaluate_wide(job, out);
-        return;
-    }
-    evaluate_tiny(job, out);
 }

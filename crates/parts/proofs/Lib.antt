@@ -6,6 +6,7 @@ pub mod Limits
 pub mod LiteralsRead
 pub mod Stating
 pub mod Counting
+pub mod Texting
 pub mod LiteralsPut
 pub mod Seeking
 pub mod RuleText

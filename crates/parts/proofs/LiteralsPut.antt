@@ -1,12 +1,13 @@
 -- The literals of the part, written. Assumes nothing.
 --   put_out, put-plain, put-negated, put-length   one literal of a body: of a claim that isn't in the part; of one that is, plain or negated; its length
 --   Putting ..                      the literals before k are written
---   putting-start, -room, _size, _more, _end    none yet; room for one more; the output's length; one more; all
---   own-fits, _room, _put, _none    the head's own negation behind them, or nothing
+--   putting-start, -room, _more, _end    none yet; room for one more; one more; all
+--   own-fits, _room, _put    the negation of a claim of the part behind them
 use Prim.Native.Nat.{ℕ, ◌+◌, ◌-◌, ◌<◌, ◌≤◌}
 use mathlib.Core.Path.{◌≡◌, refl, sym, ◌∙◌, ap}
-use mathlib.Core.Bool.{Bool, true, false, not, cond}
-use mathlib.Core.List.{List, [], ◌∷◌, ◌++◌, flat_map, append-nil}
+use mathlib.Core.Bool.{Bool, true, false, not}
+use Rattle.std.specs.Prelude.{Option, None, Some}
+use mathlib.Core.List.{List, [], ◌∷◌, ◌++◌, flat_map}
 use native.Mathlib.Omega.{arith}
 use borrow.Author.Tests.{eq-eqb, ne_eqb}
 use lib.ListN.{length, get_or, length-append}
@@ -17,10 +18,11 @@ use Rattle.job.specs.Encoding.{half_bytes, field_of}
 use Rattle.job.specs.declared.Literal.{Literal}
 use Rattle.job.specs.declared.Literal.TheVariants.{Plain, Negated}
 use Rattle.semantics.specs.Model.{Body}
-use Rattle.writing.specs.Written.{Put}
-use Rattle.writing.proofs.Wrote.{put_none, put_put, put_as, put_size}
+use Rattle.writing.specs.Writes.{Writes, HasRoom}
+use Rattle.writing.specs.declared.writer.Writer.{Writer}
 use Rattle.writing.proofs.Parted.{flat_append}
-use Rattle.writing.proofs.Onward.{Onward, onward-start, onward_size, onward-room, onward_more, onward_end}
+use Rattle.writing.proofs.Writing.{writes_none, writes_as, writes-room, writes-writes}
+use Rattle.parts.proofs.Texting.{Texting, texting-start, texting-room, texting_more, texting_end}
 use Rattle.parts.specs.Part.{within, renumbered, part_literals}
 use Rattle.parts.specs.Written.{literals_in, literal_bytes, with_own}
 use Rattle.parts.proofs.LiteralsRead.{literals_none, literals_more}
@@ -51,85 +53,79 @@ module _ (place : List ℕ) (l : Literal) {b n : ℕ} (claim : b ≡ claim_of l)
   unfolding set_of
   in_is z = ap not (ne_eqb (get_or place (claim_of l) 0) 0 (λ e. z (at_place ∙ e)))
 
-  pub put_out : (out : List ℕ) (at : ℕ) → n ≡ 0 → Put out at (part_bytes place (l ∷ [])) out at
+  pub put_out : (out : Writer) → n ≡ 0 → Writes out out (part_bytes place (l ∷ []))
   unfolding part_literals flat_map
-  put_out out at z = put_as (put_none out at) (sym (ap literal_bytes (first_out place l [] (out_is z))))
+  put_out out z = writes_as (writes_none out) (sym (ap literal_bytes (first_out place l [] (out_is z))))
 
-  one-bytes : (n ≡ 0 → ⊥) → half_bytes (field_of (renumbered place l)) ≡ part_bytes place (l ∷ [])
-  unfolding part_literals flat_map
-  one-bytes z = sym (ap literal_bytes (first_in place l [] (in_is z)))
+  -- it has number m in the part
+  module _ {m : ℕ} (number : (1 ≤ n) × (m ≡ n - 1)) where
+    one-bytes : half_bytes (field_of (renumbered place l)) ≡ part_bytes place (l ∷ [])
+    unfolding part_literals flat_map
+    one-bytes = sym (ap literal_bytes (first_in place l [] (in_is (λ z. omega (arith, number.0)))))
 
-  pub put-length : (n ≡ 0 → ⊥) → length (part_bytes place (l ∷ [])) ≡ 2
-  put-length z = sym (ap length (one-bytes z))
+    at_number : m ≡ get_or place (claim_of l) 0 - 1
+    at_number = omega (arith, at_place)
 
-  pub put-plain : {c : ℕ} {out out' : List ℕ} {at r : ℕ} → (n ≡ 0 → ⊥) → l ≡ Plain c → Put out at (half_bytes (n - 1)) out' r → Put out at (part_bytes place (l ∷ [])) out' r
-  put-plain z e p = put_as p (ap half_bytes (ap (λ (k : ℕ). k - 1) at_place ∙ plain e) ∙ one-bytes z)
+    pub put-length : length (part_bytes place (l ∷ [])) ≡ 2
+    put-length = sym (ap length one-bytes)
+
+    pub put-plain : {c : ℕ} {out out' : Writer} → l ≡ Plain c → Writes out out' (half_bytes m) → Writes out out' (part_bytes place (l ∷ []))
+    put-plain e p = writes_as p (ap half_bytes (at_number ∙ plain e) ∙ one-bytes)
+      where
+        plain : {c : ℕ} → l ≡ Plain c → get_or place (claim_of l) 0 - 1 ≡ field_of (renumbered place l)
+        plain e = rw e
+
+    pub put-negated : {c : ℕ} {out out' : Writer} → l ≡ Negated c → Writes out out' (half_bytes (32768 + m)) → Writes out out' (part_bytes place (l ∷ []))
+    put-negated e p = writes_as p (ap half_bytes (ap (λ (k : ℕ). 32768 + k) at_number ∙ negated e) ∙ one-bytes)
+      where
+        negated : {c : ℕ} → l ≡ Negated c → 32768 + (get_or place (claim_of l) 0 - 1) ≡ field_of (renumbered place l)
+        negated e = rw e
+
+abbrev pub Putting : List ℕ → List ℕ → ℕ → ℕ → Writer → Writer → ℕ → Type 0
+Putting s place from end out₀ out k = Texting out₀ (part_bytes place (literals_in s from end)) out (part_bytes place (literals_in s k end))
+
+module _ (s place : List ℕ) (from end : ℕ) where
+  pub putting-start : (out : Writer) → HasRoom out (length (part_bytes place (literals_in s from end))) → Putting s place from end out out from
+  putting-start out h = texting-start out h refl
+
+  module _ {out₀ out : Writer} {k : ℕ} (a : Putting s place from end out₀ out k) where
+    module _ (l : k < end) {x : Literal} (is : x ≡ literal_at s (rules s) k) where
+      first : part_bytes place (literals_in s k end) ≡ part_bytes place (x ∷ []) ++ part_bytes place (literals_in s (k + 1) end)
+      first =
+          ap (part_bytes place) (literals_more s k end l ∙ ap (λ (y : Literal). y ∷ literals_in s (k + 1) end) (sym is))
+          ∙ one_more place x (literals_in s (k + 1) end)
+
+      pub putting-room : HasRoom out (length (part_bytes place (x ∷ [])))
+      putting-room = texting-room a _ _ first
+
+      pub putting_more : {out' : Writer} → Writes out out' (part_bytes place (x ∷ [])) → Putting s place from end out₀ out' (k + 1)
+      putting_more w = texting_more a _ _ first w
+
+    pub putting_end : end ≤ k → Writes out₀ out (part_bytes place (literals_in s from end))
+    unfolding part_literals flat_map
+    putting_end h = texting_end a (ap (part_bytes place) (literals_none s k end h))
+
+-- the negation of a claim of the part behind the literals of b
+own-bytes : (i : ℕ) (b : Body) → literal_bytes (with_own (Some i) b) ≡ literal_bytes b ++ half_bytes (32768 + i)
+unfolding flat_map
+own-bytes i b = flat_append (λ l. half_bytes (field_of l)) b (Negated i ∷ [])
+
+module _ (own : Option ℕ) (b : Body) (out : Writer) (fits : HasRoom out (length (literal_bytes (with_own own b)))) where
+  pub own-fits : HasRoom out (length (literal_bytes b))
+  own-fits = go own fits
     where
-      plain : {c : ℕ} → l ≡ Plain c → get_or place (claim_of l) 0 - 1 ≡ field_of (renumbered place l)
-      plain e = rw e
+      go : (o : Option ℕ) → HasRoom out (length (literal_bytes (with_own o b))) → HasRoom out (length (literal_bytes b))
+      go None h = h
+      go (Some i) h = omega (arith, ap length (own-bytes i b), length-append (literal_bytes b) (half_bytes (32768 + i)))
 
-  pub put-negated :
-      {c : ℕ} {out out' : List ℕ} {at r : ℕ} → (n ≡ 0 → ⊥) → l ≡ Negated c → Put out at (half_bytes (32768 + (n - 1))) out' r
-      → Put out at (part_bytes place (l ∷ [])) out' r
-  put-negated z e p = put_as p (ap half_bytes (ap (λ (k : ℕ). 32768 + (k - 1)) at_place ∙ negated e) ∙ one-bytes z)
-    where
-      negated : {c : ℕ} → l ≡ Negated c → 32768 + (get_or place (claim_of l) 0 - 1) ≡ field_of (renumbered place l)
-      negated e = rw e
+  module _ {out' : Writer} (p : Writes out out' (literal_bytes b)) where
+    module _ {i : ℕ} (some : own ≡ Some i) where
+      one-own : literal_bytes (with_own own b) ≡ literal_bytes b ++ half_bytes (32768 + i)
+      one-own = ap (λ (o : Option ℕ). literal_bytes (with_own o b)) some ∙ own-bytes i b
 
-pub record Putting (s place : List ℕ) (from end : ℕ) (out₀ : List ℕ) (at : ℕ) (out : List ℕ) (to k : ℕ) : Type 0 where
-  pub fits : at + length (part_bytes place (literals_in s from end)) ≤ length out₀
-  pub onward : Onward out₀ at (part_bytes place (literals_in s from end)) out to (part_bytes place (literals_in s k end))
+      pub own_room : HasRoom out' 2
+      own_room =
+          writes-room _ _ _ own-fits p 2 (omega (arith, ap length one-own, length-append (literal_bytes b) (half_bytes (32768 + i))))
 
-pub putting-start :
-    (s place : List ℕ) (from end : ℕ) (out : List ℕ) (at : ℕ) → at + length (part_bytes place (literals_in s from end)) ≤ length out
-    → Putting s place from end out at out at from
-putting-start s place from end out at h = record { fits = h; onward = onward-start out at (part_bytes place (literals_in s from end)) }
-
-module _ {s place : List ℕ} {from end : ℕ} {out₀ : List ℕ} {at : ℕ} {out : List ℕ} {to k : ℕ} (a : Putting s place from end out₀ at out to k) where
-  pub putting_size : length out ≡ length out₀
-  putting_size = onward_size a.fits a.onward
-
-  module _ (l : k < end) {x : Literal} (is : x ≡ literal_at s (rules s) k) where
-    first : part_bytes place (literals_in s k end) ≡ part_bytes place (x ∷ []) ++ part_bytes place (literals_in s (k + 1) end)
-    first =
-        ap (part_bytes place) (literals_more s k end l ∙ ap (λ (y : Literal). y ∷ literals_in s (k + 1) end) (sym is))
-        ∙ one_more place x (literals_in s (k + 1) end)
-
-    pub putting-room : to + length (part_bytes place (x ∷ [])) ≤ length out
-    putting-room =
-        omega (arith, onward-room a.fits a.onward, ap length first, length-append (part_bytes place (x ∷ [])) (part_bytes place (literals_in s (k + 1) end)))
-
-    pub putting_more : (out' : List ℕ) (to' : ℕ) → Put out to (part_bytes place (x ∷ [])) out' to' → Putting s place from end out₀ at out' to' (k + 1)
-    putting_more out' to' p = record { fits = a.fits; onward = onward_more a.fits a.onward (part_bytes place (x ∷ [])) _ out' to' first p }
-
-  pub putting_end : end ≤ k → Put out₀ at (part_bytes place (literals_in s from end)) out to
-  unfolding part_literals flat_map
-  putting_end h = onward_end a.onward (ap (part_bytes place) (literals_none s k end h))
-
--- the head's own negation behind the literals of b
-own-bytes : (own : Bool) (i : ℕ) (b : Body) → literal_bytes (with_own own i b) ≡ literal_bytes b ++ literal_bytes (cond own (Negated i ∷ []) [])
-own-bytes own i b = flat_append (λ l. half_bytes (field_of l)) b (cond own (Negated i ∷ []) [])
-
-module _ (own : Bool) (i : ℕ) (b : Body) where
-  one-own : own ≡ true → literal_bytes (with_own own i b) ≡ literal_bytes b ++ half_bytes (32768 + i)
-  unfolding flat_map
-  one-own e = own-bytes own i b ∙ rw e
-
-  no_own : own ≡ false → literal_bytes (with_own own i b) ≡ literal_bytes b
-  unfolding flat_map
-  no_own e = own-bytes own i b ∙ rw e (append-nil (literal_bytes b))
-
-  module _ (out : List ℕ) (at : ℕ) (fits : at + length (literal_bytes (with_own own i b)) ≤ length out) where
-    pub own-fits : at + length (literal_bytes b) ≤ length out
-    own-fits = omega (arith, ap length (own-bytes own i b), length-append (literal_bytes b) (literal_bytes (cond own (Negated i ∷ []) [])))
-
-    module _ {out' : List ℕ} {to : ℕ} (p : Put out at (literal_bytes b) out' to) where
-      pub own_room : own ≡ true → to + 2 ≤ length out'
-      own_room e =
-          omega (arith, p.next, put_size out at (literal_bytes b) out' to own-fits p, ap length (one-own e), length-append (literal_bytes b) (half_bytes (32768 + i)))
-
-      pub own_put : {out'' : List ℕ} {r : ℕ} → own ≡ true → Put out' to (half_bytes (32768 + i)) out'' r → Put out at (literal_bytes (with_own own i b)) out'' r
-      own_put e q = put_as (put_put out at (literal_bytes b) out' to own-fits p _ _ _ q) (sym (one-own e))
-
-      pub own_none : own ≡ false → Put out at (literal_bytes (with_own own i b)) out' to
-      own_none e = put_as p (sym (no_own e))
+      pub own_put : {out'' : Writer} → Writes out' out'' (half_bytes (32768 + i)) → Writes out out'' (literal_bytes (with_own own b))
+      own_put q = writes_as (writes-writes _ _ _ own-fits p _ _ q) (sym one-own)

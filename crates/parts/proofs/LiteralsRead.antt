@@ -14,9 +14,8 @@ use Rattle.job.specs.Job.{claim_of}
 use Rattle.job.specs.Format.{claims, rules, literals, literal_byte, literal_at, job_of}
 use Rattle.job.specs.Accepted.{WellFormed}
 use Rattle.job.specs.declared.Literal.{Literal}
-use Rattle.table.specs.Layout.{mark_word}
-use Rattle.table.specs.Ranges.{InRange}
-use Rattle.parts.specs.Written.{literals_in, Beside}
+use Rattle.table.specs.Layout.{used, mark_word}
+use Rattle.parts.specs.Written.{literals_in}
 
 pub literals_none : (s : List ℕ) (k end : ℕ) → end ≤ k → literals_in s k end ≡ []
 literals_none s k end h = span_none (literal_at s (rules s)) k (end - k) (omega arith)
@@ -39,9 +38,9 @@ module _ {s : List ℕ} {m k end : ℕ} (good : WellFormed s) (count : m ≡ rul
     literal-claim : claim_of x < claims s
     literal-claim = omega (arith, ap claim_of literal_is, good.literal k (omega arith))
 
-    pub literal-place : {place : List ℕ} → Beside s place → claim_of x < length place
-    literal-place b = omega (arith, literal-claim, b.long)
+    pub literal-place : (place : List ℕ) → length place ≡ claims s → claim_of x < length place
+    literal-place place e = omega (arith, literal-claim, e)
 
-    pub literal-mark : {t : List ℕ} → InRange (job_of s) t → mark_word (claim_of x) < length t
+    pub literal-mark : (t : List ℕ) → used (job_of s) ≤ length t → mark_word (claim_of x) < length t
     unfolding job_of
-    literal-mark r = omega (arith, literal-claim, r.room)
+    literal-mark t h = omega (arith, literal-claim, h)

@@ -4,8 +4,7 @@
 --   records_fit, literals_fit, header-small, header-fits   there is room for each
 --   part_put         all written
 use Prim.Native.Nat.{ℕ, ◌+◌, ◌*◌, ◌-◌, ◌/◌, ◌≤◌}
-use mathlib.Core.Path.{◌≡◌, refl, sym, ◌∙◌, ap, ap₂}
-use mathlib.Core.Bool.{true, false}
+use mathlib.Core.Path.{◌≡◌, refl, sym, ◌∙◌, ap, ap₂, subst₂}
 use mathlib.Core.List.{List, [], ◌∷◌, ◌++◌, flat_map, append-nil, append_assoc}
 use native.Mathlib.Omega.{arith}
 use lib.ListN.{length, take, drop, length-append}
@@ -16,9 +15,12 @@ use Rattle.job.specs.Encoding.{half_bytes, field_of, header_bytes, rule_bytes, b
 use Rattle.fields.specs.Header.{header_of}
 use Rattle.fields.proofs.Heading.{header-length, header-job}
 use Rattle.writing.specs.Written.{Put, wrote}
+use Rattle.writing.specs.Writes.{Writes, HasRoom}
+use Rattle.writing.specs.declared.writer.Writer.{Writer}
 use Rattle.writing.proofs.Parted.{flat-length, flat_same}
 use Rattle.writing.proofs.Wrote.{from_back, put_put, put_size, put_as}
 use Rattle.parts.specs.Part.{part}
+use Rattle.parts.specs.declared.claim.Section.TheVariants.{Records, Literals}
 use Rattle.parts.specs.Written.{text_of, texts_of, part_of, part_texts}
 
 -- a text of n bytes at the front, before one that stands there from n on
@@ -44,32 +46,32 @@ put-before {buf} {text} {out} {h} {out'} {n} {r} {q} e fits p w =
     }
 
 -- the lengths of the parts
-records-length : (rs : List Rule) → length (texts_of true rs) ≡ 4 * length rs
+records-length : (rs : List Rule) → length (texts_of Records rs) ≡ 4 * length rs
 unfolding text_of
-records-length rs = flat-length (text_of true) 4 rs (λ r. refl)
+records-length rs = flat-length (text_of Records) 4 rs (λ r. refl)
 
 body-length : (r : Rule) → length (body_bytes r) ≡ 2 * length r.body
 body-length r = flat-length (λ l. half_bytes (field_of l)) 2 r.body (λ l. refl)
 
-literals-length : (rs : List Rule) → length (texts_of false rs) ≡ 2 * body_count rs
+literals-length : (rs : List Rule) → length (texts_of Literals rs) ≡ 2 * body_count rs
 unfolding flat_map text_of body_count
 literals-length [] = omega arith
-literals-length (r ∷ rs) = length-append (body_bytes r) (texts_of false rs) ∙ omega (arith, body-length r, literals-length rs)
+literals-length (r ∷ rs) = length-append (body_bytes r) (texts_of Literals rs) ∙ omega (arith, body-length r, literals-length rs)
 
 module _ (s t place ms : List ℕ) where
   abbrev p : Job
   p = part_of s t place ms
 
   abbrev records : List ℕ
-  records = part_texts true s t place ms
+  records = part_texts Records s t place ms
 
   abbrev bodies : List ℕ
-  bodies = part_texts false s t place ms
+  bodies = part_texts Literals s t place ms
 
   pub part_encoded : encode p ≡ header_bytes p ++ (records ++ bodies)
   unfolding encode part flat_map text_of
   part_encoded =
-      ap₂ (λ (x y : List ℕ). header_bytes p ++ x ++ y ++ []) (flat_same rule_bytes (text_of true) (λ r. refl) p.rules) (flat_same body_bytes (text_of false) (λ r. refl) p.rules)
+      ap₂ (λ (x y : List ℕ). header_bytes p ++ x ++ y ++ []) (flat_same rule_bytes (text_of Records) (λ r. refl) p.rules) (flat_same body_bytes (text_of Literals) (λ r. refl) p.rules)
       ∙ append-nil ((header_bytes p ++ records) ++ bodies)
       ∙ append_assoc (header_bytes p) records bodies
 
@@ -109,12 +111,17 @@ module _ (s t place ms : List ℕ) where
         pub header-small : question_byte ((b - 36) / 4) ((c - b) / 2) 0 ≤ length out
         header-small = omega (arith, whole_length, rules_are, literals_are, records-length p.rules, literals-length p.rules)
 
-        pub header-fits : 36 ≤ length out₂
-        header-fits = omega (arith, whole_length, same)
+        -- a writer at the front of what is written so far has room for the header
+        pub header-fits : (w : Writer) → w.buf.now ≡ out₂ → w.at ≡ 0 → HasRoom w 36
+        header-fits w e z = omega (arith, whole_length, same, ap length e)
 
         header_is : header_of (length ms) ((b - 36) / 4) ((c - b) / 2) 1 0 ≡ header_bytes p
         unfolding part
         header_is = ap₂ (λ (m l : ℕ). header_of (length ms) m l 1 0) rules_are literals_are ∙ header-job p
 
-        pub part_put : {out₃ : List ℕ} {r : ℕ} → Put out₂ 0 (header_of (length ms) ((b - 36) / 4) ((c - b) / 2) 1 0) out₃ r → Put out 0 (encode p) out₃ c
-        part_put w = put_as (put-before header-36 both_fit both (put_as w header_is)) (sym part_encoded)
+        pub part_put :
+            {w w' : Writer} → w.buf.now ≡ out₂ → w.at ≡ 0 → Writes w w' (header_of (length ms) ((b - 36) / 4) ((c - b) / 2) 1 0)
+            → Put out 0 (encode p) w'.buf.now c
+        part_put {w} {w'} e z h =
+            let front : Put out₂ 0 (header_bytes p) w'.buf.now w'.at = subst₂ (λ x a. Put x a (header_bytes p) w'.buf.now w'.at) e z (put_as h.put header_is) in
+            put_as (put-before header-36 both_fit both front) (sym part_encoded)

@@ -101,7 +101,7 @@ module _ {s index t place ms : List ℕ} (lent : Lent s index t place ms) where
     pub front-values :
         {before o : List ℕ} → Alone (job_of s) t place → OutputBytes (take n out) (program_of (job_of (take n out))) before o → PartValues (job_of s) t ms o
     front-values alone b =
-        values_of lent.job (λ i h. member_below lent i h refl)
+        values_of lent.job (λ i h. member_below s _ ms lent.long lent.numbered i h refl)
         (λ i h.
         b.verdict_at i (omega (arith, front-claims))
         ∙ ap (λ (j : Job). byte_of (verdict (program_of j) i)) means

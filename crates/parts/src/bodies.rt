@@ -1,24 +1,25 @@
 // The body of a rule of the part: the literals from one place of the job up to another. The contracts cite specs/Part and specs/Written.
-ghost use Rattle.std.specs.Prelude.{◌≡◌, ◌∷◌, [], ◌+◌, ◌<◌, ◌≤◌, length};
+ghost use Rattle.std.specs.Prelude.{◌≡◌, ◌∷◌, [], ◌<◌, ◌≤◌, length, IfSome};
 ghost use Rattle.job.specs.Job.{claim_of};
-ghost use Rattle.job.specs.Format.{rules as rules_of, literals, job_of};
+ghost use Rattle.job.specs.Format.{literals};
 ghost use Rattle.table.specs.Layout.{mark_word};
-ghost use Rattle.table.specs.Ranges.{InRange};
-ghost use Rattle.writing.specs.Written.{Put};
+ghost use Rattle.writing.specs.Writes.{Writes, HasRoom};
 ghost use Rattle.parts.specs.Part.{within, part_literals};
-ghost use Rattle.parts.specs.Written.{literals_in, lowered as lowered_by, status_of, literal_bytes, with_own, Beside};
+ghost use Rattle.parts.specs.Written.{literals_in, lowered as lowered_by, status_of, literal_bytes, with_own};
 
-use base::wide;
-use fields::words;
+use crate::component::Component;
+use fields::little_endian;
 use job::{Literal, format};
 use table::{literals, words as marks};
+use writing::Writer;
 
 // What a body is: one with a failing literal, one that stands with an undecided literal, one that stands with none.
-pub const FAILED: usize = 0;
-
-pub const UNDECIDED: usize = 1;
-
-pub const DECIDED: usize = 2;
+#[derive(Clone, Copy, Debug, PartialEq, Eq)]
+pub enum Status {
+    Failed,
+    Undecided,
+    Decided,
+}
 
 // Whether the claim of a literal is in the part.
 fn inside(place: &[u16], literal: Literal) -> bool
@@ -29,7 +30,7 @@ fn inside(place: &[u16], literal: Literal) -> bool
 }
 
 // What a body is that was `state` before it met this literal.
-fn lowered(table: &[u32], place: &[u16], literal: Literal, state: usize) -> usize
+fn lowered(table: &[u32], place: &[u16], literal: Literal, state: Status) -> Status
     requires { (claim_of literal < length place.now) × (mark_word (claim_of literal) < length table.now) }
     ensures { result ≡ lowered_by table.now place.now literal state }
 {
@@ -37,45 +38,37 @@ fn lowered(table: &[u32], place: &[u16], literal: Literal, state: usize) -> usiz
         return state;
     }
     if literals::failed(table, literal) {
-        return FAILED;
+        return Status::Failed;
     }
     if marks::mark_at(table, format::claim_of(literal)) == marks::UNDEFINED_MARK {
-        return UNDECIDED;
+        return Status::Undecided;
     }
     state
 }
 
 // What a body is.
-pub fn status(
-    job: &[u8],
-    rules: usize,
-    table: &[u32],
-    place: &[u16],
-    from: usize,
-    end: usize,
-) -> usize
-    requires beside { Beside job.now place.now × InRange (job_of job.now) table.now }
-    requires rules_value { (rules ≡ rules_of job.now) × (end ≤ literals job.now) }
-    ensures { result ≡ status_of table.now place.now (literals_in job.now from end) }
+pub fn status_of(part: &Component, from: usize, end: usize) -> Status
+    requires { end ≤ literals part.now.job.now }
+    ensures { result ≡ status_of part.now.table.now part.now.place.now (literals_in part.now.job.now from end) }
 {
-    let mut state = DECIDED;
+    let mut state = Status::Decided;
     for k in from..end {
-        state = lowered(table, place, format::literal_at(job, rules, k), state);
-        if state == FAILED {
-            return FAILED;
+        state = lowered(part.table, part.place, part.job.literal_at(k), state);
+        if state == Status::Failed {
+            return Status::Failed;
         }
     }
     state
 }
 
-// How many literals of a body are of claims in the part.
-pub fn count_within(job: &[u8], rules: usize, place: &[u16], from: usize, end: usize) -> usize
-    requires { Beside job.now place.now × (rules ≡ rules_of job.now) × (end ≤ literals job.now) }
-    ensures { (result ≡ length (part_literals place.now (literals_in job.now from end))) × (result ≤ literals job.now) }
+// How many literals of a body are of claims in the part. A loop: in a filter's closure, what reading a literal requires is not proved.
+pub fn count_within(part: &Component, from: usize, end: usize) -> usize
+    requires { end ≤ literals part.now.job.now }
+    ensures { (result ≡ length (part_literals part.now.place.now (literals_in part.now.job.now from end))) × (result ≤ literals part.now.job.now) }
 {
     let mut n: usize = 0;
     for k in from..end {
-        if inside(place, format::literal_at(job, rules, k)) {
+        if inside(part.place, part.job.literal_at(k)) {
             n += 1;
         }
     }
@@ -83,61 +76,39 @@ pub fn count_within(job: &[u8], rules: usize, place: &[u16], from: usize, end: u
 }
 
 // A literal of a claim in the part, by its number there; nothing for another.
-fn put_inside(place: &[u16], literal: Literal, out: &mut [u8], at: usize) -> usize
-    requires literal_in_bounds { claim_of literal < length place.now }
-    requires literal_in_bounds_2 { at + length (literal_bytes (part_literals place.now (literal ∷ []))) ≤ length out.old }
-    ensures { Put out.old at (literal_bytes (part_literals place.now (literal ∷ []))) out.new result }
+fn put_inside(place: &[u16], literal: Literal, out: &mut Writer)
+    requires placed { claim_of literal < length place.now }
+    requires room { HasRoom out.old (length (literal_bytes (part_literals place.now (literal ∷ [])))) }
+    ensures { Writes out.old out.new (literal_bytes (part_literals place.now (literal ∷ []))) }
 {
-    let number = wide::half(place[format::claim_of(literal)]);
-    if number == 0 {
-        return at;
-    }
+    let Some(number) = usize::from(place[format::claim_of(literal)]).checked_sub(1) else {
+        return;
+    };
     match literal {
-        Literal::Plain(claim) => words::put_half(out, at, number - 1),
-        Literal::Negated(claim) => words::put_half(out, at, format::NEGATED + (number - 1)),
+        Literal::Plain(_) => little_endian::put_half(out, number),
+        Literal::Negated(_) => little_endian::put_half(out, format::NEGATED + number),
     }
 }
 
 // The literals of a body that are of claims in the part.
-fn put_within(
-    job: &[u8],
-    rules: usize,
-    place: &[u16],
-    from: usize,
-    end: usize,
-    out: &mut [u8],
-    at: usize,
-) -> usize
-    requires beside { Beside job.now place.now × (rules ≡ rules_of job.now) × (end ≤ literals job.now) }
-    requires end_in_bounds { at + length (literal_bytes (part_literals place.now (literals_in job.now from end))) ≤ length out.old }
-    ensures { Put out.old at (literal_bytes (part_literals place.now (literals_in job.now from end))) out.new result }
+fn put_within(part: &Component, from: usize, end: usize, out: &mut Writer)
+    requires end { end ≤ literals part.now.job.now }
+    requires room { HasRoom out.old (length (literal_bytes (part_literals part.now.place.now (literals_in part.now.job.now from end)))) }
+    ensures { Writes out.old out.new (literal_bytes (part_literals part.now.place.now (literals_in part.now.job.now from end))) }
 {
-    let mut to = at;
     for k in from..end {
-        to = put_inside(place, format::literal_at(job, rules, k), out, to);
+        put_inside(part.place, part.job.literal_at(k), out);
     }
-    to
 }
 
-// These, and claim i's own negation if that is wanted.
-pub fn put_body(
-    job: &[u8],
-    rules: usize,
-    place: &[u16],
-    i: usize,
-    own: bool,
-    from: usize,
-    end: usize,
-    out: &mut [u8],
-    at: usize,
-) -> usize
-    requires beside { Beside job.now place.now × (rules ≡ rules_of job.now) × (end ≤ literals job.now) × (i < 65536) }
-    requires end_in_bounds { at + length (literal_bytes (with_own own i (part_literals place.now (literals_in job.now from end)))) ≤ length out.old }
-    ensures { Put out.old at (literal_bytes (with_own own i (part_literals place.now (literals_in job.now from end)))) out.new result }
+// These, and the negation of the part's claim `own`, if one is wanted.
+pub fn put_body(part: &Component, own: Option<usize>, from: usize, end: usize, out: &mut Writer)
+    requires fits { (end ≤ literals part.now.job.now) × IfSome own (λ i. i < 65536) }
+    requires room { HasRoom out.old (length (literal_bytes (with_own own (part_literals part.now.place.now (literals_in part.now.job.now from end))))) }
+    ensures { Writes out.old out.new (literal_bytes (with_own own (part_literals part.now.place.now (literals_in part.now.job.now from end)))) }
 {
-    let to = put_within(job, rules, place, from, end, out, at);
-    if own {
-        return words::put_half(out, to, format::NEGATED + i);
+    put_within(part, from, end, out);
+    if let Some(i) = own {
+        little_endian::put_half(out, format::NEGATED + i);
     }
-    to
 }

@@ -1,12 +1,14 @@
 // The part written and evaluated, in room by the size of the job: the arrays are cleared in each call, so a small job takes a small one. The
 // contracts cite specs/Part and specs/Written.
-ghost use Rattle.std.specs.Prelude.{◌≡◌, ◌≤◌, length, replicate};
+ghost use Rattle.std.specs.Prelude.{◌≡◌, ◌<◌, ◌≤◌, length};
 ghost use Rattle.job.specs.Format.{job_of};
+ghost use Rattle.table.specs.Ranges.{InRange};
 ghost use Rattle.parts.specs.Part.{Alone, PartValues};
 ghost use Rattle.parts.specs.Written.{Lent};
 
+use crate::component::Component;
 use crate::write;
-use job::{ClaimIndex, checks};
+use job::{ClaimIndex, Job, checks};
 use model::evaluate;
 
 // The rooms: at most so many bytes of a job.
@@ -24,166 +26,48 @@ const LARGE_BYTES: usize = checks::MOST_BYTES;
 const SMALL_MEMBERS: usize = 16;
 
 // The values of the members, by the part written into this room.
-fn evaluate_in(
-    job: &[u8],
-    index: &ClaimIndex,
-    table: &[u32],
-    place: &[u16],
-    members: &[u16],
-    values: &mut [u8],
-    room: &mut [u8],
-)
-    requires lent { Lent job.now index.now table.now place.now members.now × Alone (job_of job.now) table.now place.now }
-    requires values_len { (length values.old ≡ length members.now) × (length job.now ≤ length room.old) }
-    ensures { PartValues (job_of job.now) table.now members.now values.new }
+fn evaluate_in(part: &Component, values: &mut [u8], room: &mut [u8])
+    requires alone { InRange (job_of part.now.job.now) part.now.table.now × Alone (job_of part.now.job.now) part.now.table.now part.now.place.now }
+    requires room { (length values.old ≡ length part.now.members.now) × (length part.now.job.now ≤ length room.old) }
+    ensures { PartValues (job_of part.now.job.now) part.now.table.now part.now.members.now values.new }
 {
-    let n = write::put_part(job, index, table, place, members, room);
-    evaluate::evaluate_accepted(&room[..n], values);
+    let n = write::put_part(part, room);
+    let written = Job::of_accepted(&room[..n]);
+    evaluate::evaluate_accepted(&written, values);
 }
 
-// Room for each size, and the evaluation in it.
-fn small_room() -> [u8; SMALL_BYTES]
-    ensures { result ≡ replicate 512 0 }
+// The same in room for a job of this size.
+fn evaluate_sized<const BYTES: usize>(part: &Component, values: &mut [u8])
+    requires alone { InRange (job_of part.now.job.now) part.now.table.now × Alone (job_of part.now.job.now) part.now.table.now part.now.place.now }
+    requires room { (length values.old ≡ length part.now.members.now) × (length part.now.job.now ≤ BYTES) × (BYTES < 65536) }
+    ensures { PartValues (job_of part.now.job.now) part.now.table.now part.now.members.now values.new }
 {
-    [0u8; SMALL_BYTES]
-}
-
-fn middle_room() -> [u8; MIDDLE_BYTES]
-    ensures { result ≡ replicate 2048 0 }
-{
-    [0u8; MIDDLE_BYTES]
-}
-
-fn wide_room() -> [u8; WIDE_BYTES]
-    ensures { result ≡ replicate 8192 0 }
-{
-    [0u8; WIDE_BYTES]
-}
-
-fn broad_room() -> [u8; BROAD_BYTES]
-    ensures { result ≡ replicate 32768 0 }
-{
-    [0u8; BROAD_BYTES]
-}
-
-fn large_room() -> [u8; LARGE_BYTES]
-    ensures { result ≡ replicate 61476 0 }
-{
-    [0u8; LARGE_BYTES]
-}
-
-fn evaluate_small(
-    job: &[u8],
-    index: &ClaimIndex,
-    table: &[u32],
-    place: &[u16],
-    members: &[u16],
-    values: &mut [u8],
-)
-    requires lent { Lent job.now index.now table.now place.now members.now × Alone (job_of job.now) table.now place.now }
-    requires values_len { (length values.old ≡ length members.now) × (length job.now ≤ 512) }
-    ensures { PartValues (job_of job.now) table.now members.now values.new }
-{
-    let mut room = small_room();
-    evaluate_in(job, index, table, place, members, values, &mut room[..]);
-}
-
-fn evaluate_middle(
-    job: &[u8],
-    index: &ClaimIndex,
-    table: &[u32],
-    place: &[u16],
-    members: &[u16],
-    values: &mut [u8],
-)
-    requires lent { Lent job.now index.now table.now place.now members.now × Alone (job_of job.now) table.now place.now }
-    requires values_len { (length values.old ≡ length members.now) × (length job.now ≤ 2048) }
-    ensures { PartValues (job_of job.now) table.now members.now values.new }
-{
-    let mut room = middle_room();
-    evaluate_in(job, index, table, place, members, values, &mut room[..]);
-}
-
-fn evaluate_wide(
-    job: &[u8],
-    index: &ClaimIndex,
-    table: &[u32],
-    place: &[u16],
-    members: &[u16],
-    values: &mut [u8],
-)
-    requires lent { Lent job.now index.now table.now place.now members.now × Alone (job_of job.now) table.now place.now }
-    requires values_len { (length values.old ≡ length members.now) × (length job.now ≤ 8192) }
-    ensures { PartValues (job_of job.now) table.now members.now values.new }
-{
-    let mut room = wide_room();
-    evaluate_in(job, index, table, place, members, values, &mut room[..]);
-}
-
-fn evaluate_broad(
-    job: &[u8],
-    index: &ClaimIndex,
-    table: &[u32],
-    place: &[u16],
-    members: &[u16],
-    values: &mut [u8],
-)
-    requires lent { Lent job.now index.now table.now place.now members.now × Alone (job_of job.now) table.now place.now }
-    requires values_len { (length values.old ≡ length members.now) × (length job.now ≤ 32768) }
-    ensures { PartValues (job_of job.now) table.now members.now values.new }
-{
-    let mut room = broad_room();
-    evaluate_in(job, index, table, place, members, values, &mut room[..]);
-}
-
-fn evaluate_large(
-    job: &[u8],
-    index: &ClaimIndex,
-    table: &[u32],
-    place: &[u16],
-    members: &[u16],
-    values: &mut [u8],
-)
-    requires lent { Lent job.now index.now table.now place.now members.now × Alone (job_of job.now) table.now place.now }
-    requires values_len { length values.old ≡ length members.now }
-    ensures { PartValues (job_of job.now) table.now members.now values.new }
-{
-    let mut room = large_room();
-    evaluate_in(job, index, table, place, members, values, &mut room[..]);
+    let mut room = [0u8; BYTES];
+    evaluate_in(part, values, &mut room[..]);
 }
 
 // What isn't small.
-fn evaluate_more(
-    job: &[u8],
-    index: &ClaimIndex,
-    table: &[u32],
-    place: &[u16],
-    members: &[u16],
-    values: &mut [u8],
-)
-    requires lent { Lent job.now index.now table.now place.now members.now × Alone (job_of job.now) table.now place.now }
-    requires values_len { length values.old ≡ length members.now }
-    ensures { PartValues (job_of job.now) table.now members.now values.new }
+fn evaluate_more(part: &Component, values: &mut [u8])
+    requires alone { InRange (job_of part.now.job.now) part.now.table.now × Alone (job_of part.now.job.now) part.now.table.now part.now.place.now }
+    requires values_len { length values.old ≡ length part.now.members.now }
+    ensures { PartValues (job_of part.now.job.now) part.now.table.now part.now.members.now values.new }
 {
-    if job.len() <= MIDDLE_BYTES {
-        evaluate_middle(job, index, table, place, members, values);
-        return;
+    let bytes = part.job.bytes().len();
+    if bytes <= MIDDLE_BYTES {
+        evaluate_sized::<MIDDLE_BYTES>(part, values);
+    } else if bytes <= WIDE_BYTES {
+        evaluate_sized::<WIDE_BYTES>(part, values);
+    } else if bytes <= BROAD_BYTES {
+        evaluate_sized::<BROAD_BYTES>(part, values);
+    } else {
+        evaluate_sized::<LARGE_BYTES>(part, values);
     }
-    if job.len() <= WIDE_BYTES {
-        evaluate_wide(job, index, table, place, members, values);
-        return;
-    }
-    if job.len() <= BROAD_BYTES {
-        evaluate_broad(job, index, table, place, members, values);
-        return;
-    }
-    evaluate_large(job, index, table, place, members, values);
 }
 
 // The values of the members, where their part stands alone: a byte each. What isn't small is left to one function, called from two places: then the
 // compiler gives it a frame of its own, and a small part doesn't touch the pages of a large one.
 pub fn evaluate_part(
-    job: &[u8],
+    job: &Job,
     index: &ClaimIndex,
     table: &[u32],
     place: &[u16],
@@ -194,13 +78,20 @@ pub fn evaluate_part(
     requires values_len { length values.old ≡ length members.now }
     ensures { PartValues (job_of job.now) table.now members.now values.new }
 {
+    let part = Component {
+        job,
+        index,
+        table,
+        place,
+        members,
+    };
     if SMALL_MEMBERS < members.len() {
-        evaluate_more(job, index, table, place, members, values);
+        evaluate_more(&part, values);
         return;
     }
-    if SMALL_BYTES < job.len() {
-        evaluate_more(job, index, table, place, members, values);
+    if SMALL_BYTES < job.bytes().len() {
+        evaluate_more(&part, values);
         return;
     }
-    evaluate_small(job, index, table, place, members, values);
+    evaluate_sized::<SMALL_BYTES>(&part, values);
 }

@@ -4,5 +4,6 @@
 
 mod bodies;
 mod claim;
+mod component;
 pub mod evaluate;
 mod write;

@@ -1,47 +1,47 @@
 // The pairs of a record, gone through on a table. The contracts cite specs/Following.
 ghost use Rattle.std.specs.Prelude.{◌≤◌};
 ghost use Rattle.job.specs.Format.{claims, job_of};
+ghost use Rattle.job.specs.Job.{most_claims};
 ghost use Rattle.table.specs.Questions.{Listed};
 ghost use Rattle.turn.specs.Ready.{Ready};
-ghost use Rattle.calls.specs.Rooms.{Room};
+ghost use Rattle.turn.specs.KeptSet.{Keeps};
 ghost use Rattle.recording.specs.Following.{FollowedTo};
 
 use crate::Followed;
-use base::wide;
 use calls::tally;
-use job::{ClaimIndex, format};
+use job::checks::MOST_CLAIMS;
+use job::{ClaimIndex, Job};
 use table::QuestionIndex;
-use turn::{Kept, single};
+use turn::HeldSet;
+use turn::single::FEW_CLAIMS;
 
 // The pairs up to the first false one, each turn taken and then compared, with room for what is kept from turn to turn.
 fn follow_in(
-    job: &[u8],
+    job: &Job,
     index: &ClaimIndex,
     asked: &QuestionIndex,
     table: &mut [u32],
     log: &[u8],
-    place: &mut [u16],
-    members: &mut [u16],
+    set: &mut HeldSet<'_>,
 ) -> Followed
     requires ready { Ready job.now index.now table.old × Listed (job_of job.now) asked.now }
-    requires room { Room job.now place.old members.old }
+    requires keeps { Keeps (job_of job.now) table.old set.old.kept set.old.place.now set.old.members.now }
     ensures { FollowedTo job.now table.old log.now result table.new }
 {
-    let workers = format::worker_count(job);
+    let workers = job.worker_count();
     let pairs = log.len() / 2;
-    let mut counts = tally::no_turns();
-    let mut kept = Kept::nothing();
+    let mut counts = [0u64; 8];
+    // By index: tried over `chunks_exact(2).enumerate()`, the proof didn't close.
     for i in 0..pairs {
-        let w = wide::byte(log[2 * i]);
+        let w = usize::from(log[2 * i]);
         if workers <= w {
             return Followed {
                 held: i,
                 tally: counts,
             };
         }
-        let taken = turn::take_turn(job, index, asked, table, w, kept, place, members);
-        let kind = taken.kind;
-        if tally::kind_number(kind) != wide::byte(log[2 * i + 1]) {
+        let kind = turn::take_turn(job, index, asked, table, w, set);
+        if tally::kind_number(kind) != usize::from(log[2 * i + 1]) {
             return Followed {
                 held: i,
                 tally: counts,
@@ -49,7 +49,6 @@ fn follow_in(
         }
         let next = tally::counted(counts, kind);
         counts = next;
-        kept = taken.kept;
     }
     Followed {
         held: pairs,
@@ -57,60 +56,28 @@ fn follow_in(
     }
 }
 
-// The same on a small job.
-fn follow_few(
-    job: &[u8],
+// The same on a job of at most ROOM claims.
+fn follow_sized<const ROOM: usize>(
+    job: &Job,
     index: &ClaimIndex,
     asked: &QuestionIndex,
     table: &mut [u32],
     log: &[u8],
 ) -> Followed
     requires ready { Ready job.now index.now table.old × Listed (job_of job.now) asked.now }
-    requires job_bound { claims job.now ≤ 64 }
+    requires room { (claims job.now ≤ ROOM) × (ROOM ≤ most_claims) }
     ensures { FollowedTo job.now table.old log.now result table.new }
 {
-    let claims = format::claim_count(job);
-    let mut place = single::few_numbers();
-    let mut members = single::few_numbers();
-    follow_in(
-        job,
-        index,
-        asked,
-        table,
-        log,
-        &mut place[..claims],
-        &mut members[..],
-    )
-}
-
-// The same on any.
-fn follow_any(
-    job: &[u8],
-    index: &ClaimIndex,
-    asked: &QuestionIndex,
-    table: &mut [u32],
-    log: &[u8],
-) -> Followed
-    requires { Ready job.now index.now table.old × Listed (job_of job.now) asked.now }
-    ensures { FollowedTo job.now table.old log.now result table.new }
-{
-    let claims = format::claim_count(job);
-    let mut place = single::no_numbers();
-    let mut members = single::no_numbers();
-    follow_in(
-        job,
-        index,
-        asked,
-        table,
-        log,
-        &mut place[..claims],
-        &mut members[..],
-    )
+    let claims = job.claim_count();
+    let mut place = [0u16; ROOM];
+    let mut members = [0u16; ROOM];
+    let mut set = HeldSet::new(&mut place[..claims], &mut members[..claims]);
+    follow_in(job, index, asked, table, log, &mut set)
 }
 
 // The pairs up to the first false one.
 pub fn follow(
-    job: &[u8],
+    job: &Job,
     index: &ClaimIndex,
     asked: &QuestionIndex,
     table: &mut [u32],
@@ -119,8 +86,8 @@ pub fn follow(
     requires { Ready job.now index.now table.old × Listed (job_of job.now) asked.now }
     ensures { FollowedTo job.now table.old log.now result table.new }
 {
-    if format::claim_count(job) <= single::FEW_CLAIMS {
-        return follow_few(job, index, asked, table, log);
+    if job.claim_count() <= FEW_CLAIMS {
+        return follow_sized::<FEW_CLAIMS>(job, index, asked, table, log);
     }
-    follow_any(job, index, asked, table, log)
+    follow_sized::<MOST_CLAIMS>(job, index, asked, table, log)
 }

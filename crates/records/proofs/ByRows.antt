@@ -22,8 +22,8 @@ use Rattle.base.proofs.Search as Search
 use Rattle.job.specs.Job.{Job}
 use Rattle.job.specs.Format.{workers, job_of}
 use Rattle.job.specs.Checks.{check_job}
-use Rattle.job.specs.declared.Check.{Check}
-use Rattle.job.specs.declared.Check.TheVariants.{Accepted, Refused}
+use Rattle.job.specs.Check.{Check, Accepted, Refused}
+use Rattle.std.specs.Prelude.{Err}
 use Rattle.job.proofs.Rows.{pass, stop, go, halt, scan_none, scan_at}
 use Rattle.table.specs.Layout.{used}
 use Rattle.turn.specs.Turn.{kind_number, turn, run_table}
@@ -78,7 +78,7 @@ module _ (s t ws buf : List ℕ) where
       (λ l. (Accepted, Laws.taken e f (λ i h. not_below_lt _ _ (g i h)) (omega arith)))
 
   run-given : (c : Check) → check_job s ≡ c → (x : Check) × RunAnswered s t ws buf x
-  run-given (Refused n p) e = (Refused n p, Laws.first n p e)
+  run-given (Err refusal) e = (Err refusal, Laws.first refusal.number refusal.place e)
   run-given Accepted e =
       by_cases (dec_lt (length t) (used (job_of s))) (λ l. (Refused 9 (used (job_of s)), Laws.short e l)) (λ l. by-schedule e (omega arith) (first_of _ (length ws)))
 
@@ -203,7 +203,7 @@ module _ (s t r : List ℕ) where
       (λ n. (Refused 23 (length r), Laws.odd e f (length r / 2) (omega arith)))
 
   replay-given : (c : Check) → check_job s ≡ c → (x : Check) × ReplayAnswered s t r x
-  replay-given (Refused n p) e = (Refused n p, Laws.first n p e)
+  replay-given (Err refusal) e = (Err refusal, Laws.first refusal.number refusal.place e)
   replay-given Accepted e =
       by_cases (dec_lt (length t) (used (job_of s))) (λ l. (Refused 9 (used (job_of s)), Laws.short e l)) (λ l. by_length e (omega arith))
 

@@ -6,14 +6,14 @@ use mathlib.Core.Path.{◌≡◌, refl, sym, ◌∙◌, ap, ap₂}
 use mathlib.Core.List.{List, [], ◌∷◌, ◌++◌}
 use Rattle.job.specs.Format.{job_of}
 use Rattle.job.specs.Checks.{check_job}
-use Rattle.job.specs.declared.Check.{Check}
-use Rattle.job.specs.declared.Check.TheVariants.{Accepted, Refused}
+use Rattle.job.specs.Check.{Check, Accepted}
+use Rattle.std.specs.Prelude.{Err}
 use Rattle.table.specs.Start.{start_words}
 use Rattle.turn.specs.Turn.{run_table}
-use Rattle.calls.specs.Calls.{Named, run_check, run_answer, run_left}
+use Rattle.calls.specs.Calls.{Named, run_check, run_left}
 use Rattle.calls.specs.Lists.{Call, running, left, after, unless, made, turns_of, run_events, events}
 use Rattle.calls.specs.Promise.{Fresh}
-use Rattle.calls.specs.declared.RunAnswer.{RunAnswer}
+use Rattle.calls.proofs.Answering.{answered-ok}
 use Rattle.calls.proofs.Demands.{promise}
 use Rattle.records.specs.Answers.{record_check, record_table}
 use Rattle.records.specs.Lists.{listed, first, first_turns, OneOfLists}
@@ -31,10 +31,10 @@ module _ (s : List ℕ) (e : Accepted ≡ check_job s) (t ws buf : List ℕ) (ro
   -- the run of the same schedule on the started table
   module _ (a : Accepted ≡ record_check s t₀ ws buf) where
     run-taken : (run_check s t₀ ws ≡ Accepted) × (run_left (run_check s t₀ ws) s t₀ ws ≡ run_table (job_of s) t₀ ws)
-    unfolding after run_answer job_of
+    unfolding after job_of
     run-taken =
         let r = ((promise s e).taken t room []).runs ws (taken-named ((run-exactly s t₀ ws buf Accepted).0 (sym a))) in
-        (ap (λ (x : RunAnswer). x.check) r.0, r.1)
+        (sym (answered-ok _ (run_check s t₀ ws) refl r.0).0, r.1)
 
     left_same : record_table Accepted s t₀ ws ≡ left s t₀ (running ws)
     unfolding record_table left
@@ -57,7 +57,7 @@ module _ (s : List ℕ) (e : Accepted ≡ check_job s) (t ws buf : List ℕ) (ro
   unfolding listed unless after turns_of events record_table run_events
   by-check xs Accepted a =
       begins xs (running ws ∷ xs) (ap (λ (k : Check). record_table k s t₀ ws) (sym a) ∙ left_same a) (ap (λ (k : Check). unless k ws) (sym a) ∙ made_same a) refl refl refl
-  by-check xs (Refused n p) a =
+  by-check xs (Err refusal) a =
       begins xs xs (ap (λ (k : Check). record_table k s t₀ ws) (sym a)) (ap (λ (k : Check). unless k ws) (sym a)) refl refl refl
 
   pub first-listed : (xs : List Call) → OneOfLists s t ws buf xs (listed (record_check s t₀ ws buf) ws xs)

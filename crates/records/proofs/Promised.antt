@@ -16,8 +16,9 @@ use Rattle.job.specs.Job.{Job}
 use Rattle.job.specs.Format.{job_of}
 use Rattle.job.specs.Rows.{◌⨾◌, row}
 use Rattle.job.specs.Checks.{check_job}
-use Rattle.job.specs.declared.Check.{Check}
-use Rattle.job.specs.declared.Check.TheVariants.{Accepted, Refused}
+use Rattle.job.specs.Check.{Check, Accepted, Refused}
+use Rattle.std.specs.Prelude.{Result, Ok, Err}
+use Rattle.records.specs.declared.Stopped.{Stopped}
 use Rattle.job.proofs.Rows.{halt}
 use Rattle.job.proofs.Accepted.{well_formed}
 use Rattle.table.specs.Start.{start_words}
@@ -32,7 +33,7 @@ use Rattle.calls.specs.Promise.{Fresh}
 use Rattle.calls.proofs.Histories.{low_all}
 use Rattle.calls.proofs.Demands.{promise}
 use Rattle.records.specs.Record.{record_of, pairs, workers_in, held}
-use Rattle.records.specs.Answers.{check_buffer, record_check, record_table, record_tally, record_bytes, check_pairs, replay_rows, replay_check, replay_table, replay_tally}
+use Rattle.records.specs.Answers.{check_buffer, record_check, record_table, record_tally, record_bytes, check_pairs, replay_rows, replay_check, replay_answer, replay_table, replay_tally}
 use Rattle.records.specs.Laws.{started, Given, taken, Elsewhere}
 use Rattle.records.proofs.Recorded.{record-length, record_same}
 use Rattle.records.proofs.ByRows.{starts, even_rows, odd_rows, by-pairs, given_even, given-workers, replay-exactly}
@@ -41,21 +42,34 @@ use Rattle.records.proofs.Restarted.{start-again}
 -- the number and the place of a refusal
 unfoldable number_of : Check → ℕ
 number_of Accepted = 0
-number_of (Refused n p) = n
+number_of (Err refusal) = refusal.number
 
 unfoldable place_of : Check → ℕ
 place_of Accepted = 0
-place_of (Refused n p) = p
+place_of (Err refusal) = refusal.place
 
 refused-row : (b : Bool) (n p m k : ℕ) → row b n p ⨾ Accepted ≡ Refused m k → (m ≡ n) × (k ≡ p)
 unfolding row ◌⨾◌ number_of place_of
 refused-row true n p m k e = (sym (ap number_of e), sym (ap place_of e))
 refused-row false n p m k e = let z : ◌≡◌ {A = ℕ} 0 1 = cc in absurd (omega arith)
 
+-- what a replay's answer says of its check and of its tally
+pub replayed-ok : (counts : List ℕ) (x : Check) {r : Result (List ℕ) Stopped} {ns : List ℕ} → r ≡ replay_answer x counts → r ≡ Ok ns → (Accepted ≡ x) × (ns ≡ counts)
+unfolding replay_answer
+replayed-ok counts Accepted a b = (refl, cc)
+replayed-ok counts (Err refusal) a b = let z : ◌≡◌ {A = ℕ} 0 1 = cc in absurd (omega arith)
+
+pub replayed-err : (counts : List ℕ) (x : Check) {r : Result (List ℕ) Stopped} {e : Stopped} → r ≡ replay_answer x counts → r ≡ Err e → (Err e.refusal ≡ x) × (e.tally ≡ counts)
+unfolding replay_answer
+replayed-err counts Accepted a b = let z : ◌≡◌ {A = ℕ} 0 1 = cc in absurd (omega arith)
+replayed-err counts (Err refusal) {r} {e} a b =
+    let q : record { refusal = refusal; tally = counts } ≡ e = cc in
+    (ap (λ (y : Stopped). Err y.refusal) (sym q), ap (λ (y : Stopped). y.tally) (sym q))
+
 -- refused by another number than 24, a replay isn't started
 unstarted-by : (number place : ℕ) (s t r : List ℕ) (k : Check) → k ⨾ check_pairs (job_of s) (start_words (job_of s) t) r ≡ Refused number place → (number ≡ 24 → ⊥) → (replay_table k s t r ≡ t) × (replay_tally k s t r ≡ replicate 8 0)
 unfolding ◌⨾◌ check_pairs replay_table replay_tally
-unstarted-by number place s t r (Refused n p) e other = (refl, refl)
+unstarted-by number place s t r (Err refusal) e other = (refl, refl)
 unstarted-by number place s t r Accepted e other = absurd (other (refused-row _ _ _ number place e).0)
 
 pub unstarted : (number place : ℕ) (s t r : List ℕ) → replay_check s t r ≡ Refused number place → (number ≡ 24 → ⊥) → (replay_table (replay_rows s t r) s t r ≡ t) × (replay_tally (replay_rows s t r) s t r ≡ replicate 8 0)
@@ -91,7 +105,7 @@ module _ (s : List ℕ) (e : Accepted ≡ check_job s) where
         let m = sym (refused-row (under h (pairs r)) 24 h 24 k (sym (by-pairs s t (sym e) room r n) ∙ a)).1 in
         (ap (λ (x : Check). replay_table x s t r) q ∙ ap (λ (x : ℕ). run_table j (started s t) (take x (workers_in r))) m, ap (λ (x : Check). replay_tally x s t r) q ∙ ap (λ (x : ℕ). tally (run_kinds j (started s t) (take x (workers_in r)))) m)
 
-    pub runs : (ws : List ℕ) → Named s ws → (start_table (start_check s t) s t ≡ started s t) × (run_answer s (started s t) ws ≡ record { check = Accepted; tally = record_tally Accepted s t ws }) × (run_left (run_check s (started s t) ws) s (started s t) ws ≡ record_table Accepted s t ws)
+    pub runs : (ws : List ℕ) → Named s ws → (start_table (start_check s t) s t ≡ started s t) × (run_answer s (started s t) ws ≡ Ok (record_tally Accepted s t ws)) × (run_left (run_check s (started s t) ws) s (started s t) ws ≡ record_table Accepted s t ws)
     unfolding after record_tally record_table job_of
     runs ws f = let r = ((promise s e).taken t room []).runs ws f in ((((promise s e).starts t).long room).1, r.0, r.1)
 

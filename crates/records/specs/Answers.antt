@@ -4,18 +4,19 @@
 --   record_table, record_bytes, record_tally  a recorded run: the table at exit, the buffer at exit, the tally
 --   held_turns j t r                          the workers of the pairs that hold: the turns that a replay leaves
 --   replay_table, replay_tally                a replay: the table at exit, the tally
+--   replay_answer check counts                a replay's answer: the tally, with the refusal where its check has one
 --   Recorded, Replayed                        what each call gave: its answer r, the table u, and the buffer b
-use Rattle.std.specs.Prelude.{ℕ, ◌*◌, ◌%◌, ◌≡◌, List, ◌++◌, length, take, drop, replicate}
+use Rattle.std.specs.Prelude.{ℕ, ◌*◌, ◌%◌, ◌≡◌, List, ◌++◌, length, take, drop, replicate, Result, Ok, Err}
 use Rattle.base.specs.Compare.{under, differs}
 use Rattle.job.specs.Job.{Job}
 use Rattle.job.specs.Rows.{◌⨾◌, row}
 use Rattle.job.specs.Format.{job_of}
-use Rattle.job.specs.declared.Check.{Check}
-use Rattle.job.specs.declared.Check.TheVariants.{Accepted, Refused}
+use Rattle.job.specs.Check.{Check, Accepted}
+use Rattle.job.specs.declared.Refusal.{Refusal}
 use Rattle.table.specs.Start.{start_words}
 use Rattle.turn.specs.Turn.{run_table, run_kinds}
-use Rattle.calls.specs.Calls.{start_check, check_schedule, tally}
-use Rattle.calls.specs.declared.RunAnswer.{RunAnswer}
+use Rattle.calls.specs.Calls.{answered, start_check, check_schedule, tally}
+use Rattle.records.specs.declared.Stopped.{Stopped}
 use Rattle.records.specs.Record.{record_of, pairs, workers_in, held}
 
 -- "25 buffer too short for two bytes a turn, after 11, before any turn"; "for short outputs, here and later, the bytes needed"
@@ -28,16 +29,16 @@ record_check s t ws buf = start_check s t ⨾ check_schedule s ws ⨾ check_buff
 
 unfoldable pub record_table : Check → List ℕ → List ℕ → List ℕ → List ℕ
 record_table Accepted s t ws = run_table (job_of s) (start_words (job_of s) t) ws
-record_table (Refused number place) s t ws = t
+record_table (Err refusal) s t ws = t
 
 unfoldable pub record_tally : Check → List ℕ → List ℕ → List ℕ → List ℕ
 record_tally Accepted s t ws = tally (run_kinds (job_of s) (start_words (job_of s) t) ws)
-record_tally (Refused number place) s t ws = replicate 8 0
+record_tally (Err refusal) s t ws = replicate 8 0
 
 -- "may write two bytes a turn, worker and kind, to a lent buffer"; "Bytes past what is written stay."
 unfoldable pub record_bytes : Check → List ℕ → List ℕ → List ℕ → List ℕ → List ℕ
 record_bytes Accepted s t ws buf = record_of (job_of s) (start_words (job_of s) t) ws ++ drop (2 * length ws) buf
-record_bytes (Refused number place) s t ws buf = buf
+record_bytes (Err refusal) s t ws buf = buf
 
 -- "23 a record of odd length, with it, after 9, before any turn"
 unfoldable pub check_odd : List ℕ → Check
@@ -59,21 +60,23 @@ held_turns j t r = take (held j t r) (workers_in r)
 
 unfoldable pub replay_table : Check → List ℕ → List ℕ → List ℕ → List ℕ
 replay_table Accepted s t r = run_table (job_of s) (start_words (job_of s) t) (held_turns (job_of s) (start_words (job_of s) t) r)
-replay_table (Refused number place) s t r = t
+replay_table (Err refusal) s t r = t
 
 -- the tally of the turns that the table holds
 unfoldable pub replay_tally : Check → List ℕ → List ℕ → List ℕ → List ℕ
 replay_tally Accepted s t r = tally (run_kinds (job_of s) (start_words (job_of s) t) (held_turns (job_of s) (start_words (job_of s) t) r))
-replay_tally (Refused number place) s t r = replicate 8 0
+replay_tally (Err refusal) s t r = replicate 8 0
 
-pub record Recorded (check : Check) (s t ws buf : List ℕ) (r : RunAnswer) (u b : List ℕ) : Type 0 where
-  pub check_is : r.check ≡ check
-  pub tally_is : r.tally ≡ record_tally check s t ws
+pub record Recorded (check : Check) (s t ws buf : List ℕ) (r : Result (List ℕ) Refusal) (u b : List ℕ) : Type 0 where
+  pub answer_is : r ≡ answered check (record_tally Accepted s t ws)
   pub table_is : u ≡ record_table check s t ws
   pub bytes_are : b ≡ record_bytes check s t ws buf
 
+unfoldable pub replay_answer : Check → List ℕ → Result (List ℕ) Stopped
+replay_answer Accepted counts = Ok counts
+replay_answer (Err refusal) counts = Err (record { refusal = refusal; tally = counts })
+
 -- a replay, by its rows before any turn
-pub record Replayed (rows : Check) (s t rec : List ℕ) (r : RunAnswer) (u : List ℕ) : Type 0 where
-  pub check_is : r.check ≡ rows ⨾ check_pairs (job_of s) (start_words (job_of s) t) rec
-  pub tally_is : r.tally ≡ replay_tally rows s t rec
+pub record Replayed (rows : Check) (s t rec : List ℕ) (r : Result (List ℕ) Stopped) (u : List ℕ) : Type 0 where
+  pub answer_is : r ≡ replay_answer (rows ⨾ check_pairs (job_of s) (start_words (job_of s) t) rec) (replay_tally rows s t rec)
   pub table_is : u ≡ replay_table rows s t rec

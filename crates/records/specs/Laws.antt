@@ -7,11 +7,10 @@
 --   Answered s         which answer is given when, and what a refusal leaves, of any bytes s
 --   Elsewhere s t u ws a record made with the table t, taken to the table u
 --   OnRecord s         the promise, of an accepted job of bytes s
-use Rattle.std.specs.Prelude.{ℕ, ◌+◌, ◌*◌, ◌≤◌, ◌<◌, ◌≡◌, List, ◌↔◌, ◌⊎◌, length, get_or, take, drop, replicate}
+use Rattle.std.specs.Prelude.{ℕ, ◌+◌, ◌*◌, ◌≤◌, ◌<◌, ◌≡◌, List, ◌↔◌, ◌⊎◌, length, get_or, take, drop, replicate, Ok}
 use Rattle.job.specs.Format.{workers, job_of}
 use Rattle.job.specs.Checks.{check_job}
-use Rattle.job.specs.declared.Check.{Check}
-use Rattle.job.specs.declared.Check.TheVariants.{Accepted, Refused}
+use Rattle.job.specs.Check.{Check, Accepted, Refused}
 use Rattle.table.specs.Layout.{used}
 use Rattle.table.specs.Start.{start_words}
 use Rattle.turn.specs.Turn.{kind_number, turn, run_table, run_kinds}
@@ -94,7 +93,7 @@ pub record OnRecord (s : List ℕ) : Type 0 where
   pub runs :
       (t ws : List ℕ) → Fresh s t → Named s ws
       → (start_table (start_check s t) s t ≡ started s t)
-      × (run_answer s (started s t) ws ≡ record { check = Accepted; tally = record_tally Accepted s t ws })
+      × (run_answer s (started s t) ws ≡ Ok (record_tally Accepted s t ws))
       × (run_left (run_check s (started s t) ws) s (started s t) ws ≡ record_table Accepted s t ws)
   -- the table is started once: on one that is started already the run gives what it gives on the table as it was lent
   pub once :

@@ -4,10 +4,9 @@
 --   listed x ws xs       a list of 01's calls in place of such a one: a run where its check x accepts, and else nothing, and then xs
 --   OneOfLists           it has the table, the turns and the history of a list of single turns, runs and readings: what Promise says of all of
 --                        those it says of all of these
-use Rattle.std.specs.Prelude.{ℕ, ◌≡◌, List, ◌∷◌, ◌++◌}
+use Rattle.std.specs.Prelude.{ℕ, ◌≡◌, List, ◌∷◌, ◌++◌, Err}
 use Rattle.job.specs.Format.{job_of}
-use Rattle.job.specs.declared.Check.{Check}
-use Rattle.job.specs.declared.Check.TheVariants.{Accepted, Refused}
+use Rattle.job.specs.Check.{Check, Accepted}
 use Rattle.table.specs.Start.{start_words}
 use Rattle.calls.specs.Lists.{Call, running, after, unless, turns_of, Event, run_events, events}
 use Rattle.calls.specs.Promise.{from, history}
@@ -33,7 +32,7 @@ begun_history s t ws buf xs =
 
 unfoldable pub listed : Check → List ℕ → List Call → List Call
 listed Accepted ws xs = running ws ∷ xs
-listed (Refused number place) ws xs = xs
+listed (Err refusal) ws xs = xs
 
 pub record OneOfLists (s t ws buf : List ℕ) (xs calls : List Call) : Type 0 where
   pub table : begun s t ws buf xs ≡ from s t calls

@@ -4,8 +4,7 @@
 --   RunCase, runs         recorded runs with their answers; ReplayCase, replays   replays with theirs
 --   RecordsRight          the theorem
 use Rattle.std.specs.Prelude.{ℕ, ◌≡◌, List, [], ◌∷◌, map, take, set, replicate}
-use Rattle.job.specs.declared.Check.{Check}
-use Rattle.job.specs.declared.Check.TheVariants.{Accepted, Refused}
+use Rattle.job.specs.Check.{Check, Accepted, Refused}
 use Rattle.records.specs.Answers.{record_check, record_table, record_tally, record_bytes, replay_rows, replay_check, replay_table, replay_tally}
 
 -- "For two claims, 0 if 1, 1 if 0; worker 0 asks 0, worker 1 asks 1"

@@ -4,10 +4,9 @@
 // contract can say that the system writes it, so the functions here have none: they are safe, they end, and stored tests hold their words.
 #![tactic(auto)]
 
-use base::wide;
-use calls::{TurnAnswer, tally};
+use calls::tally;
 use console::{faults, input, kinds};
-use job::Check;
+use job::Refusal;
 use listing::input::MOST_INPUT;
 use recording::named;
 use std::io::{Stderr, Stdout};
@@ -31,14 +30,11 @@ fn say_kind(err: Stderr, number: usize) {
 // What the turn of the false pair is, on the table that holds the turns before it.
 fn say_turn(err: Stderr, job: &[u8], table: &mut [u32], worker: usize) {
     match calls::turn(job, table, worker) {
-        TurnAnswer::Made(kind) => {
+        Ok(kind) => {
             say(err, b"; this turn is ");
             say_kind(err, tally::kind_number(kind));
         }
-        TurnAnswer::Refused {
-            number: _,
-            place: _,
-        } => say(err, b"; the job has no such worker"),
+        Err(_) => say(err, b"; the job has no such worker"),
     }
 }
 
@@ -60,26 +56,26 @@ fn say_false(err: Stderr, job: &[u8], table: &mut [u32], log: &[u8], k: usize) {
     say(err, b"pair ");
     say_number(err, k);
     if k < log.len() / 2 {
-        let worker = wide::byte(log[2 * k]);
-        say_pair(err, worker, wide::byte(log[2 * k + 1]));
+        let worker = usize::from(log[2 * k]);
+        say_pair(err, worker, usize::from(log[2 * k + 1]));
         say_turn(err, job, table, worker);
     }
 }
 
-// What check `number` found wrong, with the place. 9 can't come, since the table is long enough.
-fn say_fault(err: Stderr, job: &[u8], table: &mut [u32], log: &[u8], number: u32, place: usize) {
-    if number == 24 {
-        say_false(err, job, table, log, place);
+// What the check found wrong, with the place. 9 can't come, since the table is long enough.
+fn say_fault(err: Stderr, job: &[u8], table: &mut [u32], log: &[u8], refusal: Refusal) {
+    if refusal.number == 24 {
+        say_false(err, job, table, log, refusal.place);
         return;
     }
-    if number == 23 {
+    if refusal.number == 23 {
         say(err, b"the record has an odd length, so it was cut: ");
     } else {
         let mut words = [0u8; faults::MOST_FAULT];
-        let n = faults::put_fault(&mut words, number);
+        let n = faults::put_fault(&mut words, refusal.number);
         say(err, &words[..n]);
     }
-    say_number(err, place);
+    say_number(err, refusal.place);
 }
 
 // Where a listing takes fewer bytes it is said before it refuses them.
@@ -110,13 +106,12 @@ fn write_run(out: Stdout, err: Stderr, job: &[u8], schedule: &[u8]) {
 
 fn replay(out: Stdout, err: Stderr, job: &[u8], log: &[u8], schedule: &mut [u8]) {
     let mut table = [0u32; words::MOST_WORDS];
-    let answer = recording::replay(job, &mut table, log);
-    let check = answer.check;
-    if let Check::Refused { number, place } = check {
+    if let Err(stopped) = recording::replay(job, &mut table, log) {
+        let refusal = stopped.refusal;
         say(err, b"replayjob: refused by check ");
-        say_number(err, number as usize);
+        say_number(err, refusal.number as usize);
         say(err, b": ");
-        say_fault(err, job, &mut table, log, number, place);
+        say_fault(err, job, &mut table, log, refusal);
         say(err, b"\n");
         return;
     }
@@ -138,15 +133,13 @@ fn main(rt: HostRuntime) {
     let mut stdin = rt.stdin();
     let mut day = input::room();
     let mut schedule = input::room();
-    let read = input::read_input(&mut stdin, &mut day);
-    let length = read.length;
-    if !read.sound {
+    let Ok(length) = input::read_input(&mut stdin, &mut day) else {
         say(
             err,
             b"replayjob: standard input can't be read; give a job and its record, as in `replayjob < my.day`\n",
         );
         return;
-    }
+    };
     if length == input::ROOM {
         say(err, b"replayjob: the input has over 1,048,576 bytes\n");
         return;

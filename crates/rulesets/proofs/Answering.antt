@@ -1,5 +1,5 @@
 -- What the call answers, by the size. Assumes nothing.
---   answer_less, answer_more, answer-counted   the call's three ways out
+--   answer_less, answer_more, answer_out, answer-counted   the call's ways out: below, above, either, and counted
 --   answered        specs/Laws: Answered, of the answer; answered-only   and of no other number and values
 use Prim.Native.Nat.{ℕ, ◌≤◌, ◌<◌}
 use mathlib.Core.Path.{◌≡◌, refl, sym, ◌∙◌, ap, subst}
@@ -14,8 +14,7 @@ use Rattle.rulesets.specs.Sets.{all_sets}
 use Rattle.rulesets.specs.Census.{census_of, census_answer, answer_number, answer_values}
 use Rattle.rulesets.specs.Laws.{Numbers, Answered, small, large, counted}
 use Rattle.rulesets.specs.declared.Counts.{Counts}
-use Rattle.rulesets.specs.declared.CensusAnswer.{CensusAnswer}
-use Rattle.rulesets.specs.declared.CensusAnswer.TheVariants.{Counted, Refused}
+use Rattle.rulesets.specs.CensusAnswer.{CensusAnswer, Counted, Refused}
 use Rattle.rulesets.proofs.Adding.{making_is, making-only, adds-up}
 use Rattle.rulesets.proofs.FirstSet.{first-most, most_one}
 
@@ -27,6 +26,9 @@ module _ (n : ℕ) where
   pub answer_more : 1 ≤ n → 3 < n → Refused 26 n ≡ census_answer n
   unfolding census_answer
   answer_more l h = sym (pick-false _ _ _ (under-no n 1 l) ∙ pick_true _ _ _ (over_yes n 3 h))
+
+  pub answer_out : (1 ≤ n → n ≤ 3 → ⊥) → Refused 26 n ≡ census_answer n
+  answer_out h = by_cases (dec_lt n 1) answer_less (λ l. answer_more (omega (arith, l)) (omega (arith, l, h)))
 
   pub answer-counted : 1 ≤ n → n ≤ 3 → {m : Counts} → m ≡ census_of n → Counted m ≡ census_answer n
   unfolding census_answer

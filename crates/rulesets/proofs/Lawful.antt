@@ -14,7 +14,7 @@ use Rattle.rulesets.specs.Sets.{Choice, all_sets, IsSet}
 use Rattle.rulesets.specs.Jobs.{set_rules, asks, job_of_set}
 use Rattle.rulesets.specs.Census.{needed_by, turns_for, census_answer}
 use Rattle.rulesets.specs.Laws.{Sizes, Needed, SetJob, Laws}
-use Rattle.rulesets.specs.declared.CensusAnswer.{CensusAnswer}
+use Rattle.rulesets.specs.CensusAnswer.{CensusAnswer}
 use Rattle.rulesets.proofs.Listed.{enumerated, is_set}
 use Rattle.rulesets.proofs.Answering.{answered, answered-only}
 use Rattle.rulesets.proofs.Needing.{needed_any}

@@ -11,7 +11,7 @@ use lib.ListN.{replicate, length-replicate}
 use Rattle.base.specs.Choose.{pick}
 use Rattle.job.specs.Format.{job_of}
 use Rattle.job.specs.Checks.{check_job}
-use Rattle.job.specs.declared.Check.TheVariants.{Accepted}
+use Rattle.job.specs.Check.{Accepted}
 use Rattle.table.specs.Layout.{used}
 use Rattle.table.specs.Start.{start_words}
 use Rattle.turn.specs.Turn.{kind_number, turn, run_table, run_kinds}

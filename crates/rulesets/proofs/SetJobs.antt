@@ -22,7 +22,7 @@ use Rattle.job.specs.Encoding.{encode, ◌∈◌, Valid}
 use Rattle.job.specs.Accepted.{WellFormed}
 use Rattle.job.specs.Format.{job_of}
 use Rattle.job.specs.Checks.{check_job}
-use Rattle.job.specs.declared.Check.TheVariants.{Accepted}
+use Rattle.job.specs.Check.{Accepted}
 use Rattle.job.specs.declared.Literal.{Literal}
 use Rattle.job.specs.declared.Question.{Question}
 use Rattle.job.proofs.Accepted.{accepted}

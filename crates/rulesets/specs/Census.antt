@@ -8,7 +8,7 @@
 --   census_of n          the five numbers of size n; numbers_of c   them, in the order of the line
 --   census_answer n      what the call answers
 --   answer_number a, answer_values a   each case of an answer by its number and its values
-use Rattle.std.specs.Prelude.{ℕ, ◌+◌, List, [], ◌∷◌, eqb}
+use Rattle.std.specs.Prelude.{ℕ, ◌+◌, List, [], ◌∷◌, eqb, Ok, Err}
 use Rattle.base.specs.Choose.{pick}
 use Rattle.base.specs.Compare.{under, over}
 use Rattle.job.specs.Job.{Job}
@@ -20,8 +20,7 @@ use Rattle.listing.specs.Listing.{first_table}
 use Rattle.rulesets.specs.Sets.{Choice, all_sets}
 use Rattle.rulesets.specs.Jobs.{job_of_set}
 use Rattle.rulesets.specs.declared.Counts.{Counts}
-use Rattle.rulesets.specs.declared.CensusAnswer.{CensusAnswer}
-use Rattle.rulesets.specs.declared.CensusAnswer.TheVariants.{Counted, Refused}
+use Rattle.rulesets.specs.CensusAnswer.{CensusAnswer, Counted, Refused}
 
 -- "the first three how many make claim 0 true, false, undefined"
 abbrev pub first_verdict : List Choice → Verdict
@@ -78,9 +77,9 @@ census_answer n = pick (under n 1) (Refused 26 n) (pick (over n 3) (Refused 26 n
 
 -- the number and the values of each case: 0 and the five numbers; the check and its place
 abbrev pub answer_number : CensusAnswer → ℕ
-answer_number (Counted c) = 0
-answer_number (Refused number place) = number
+answer_number (Ok c) = 0
+answer_number (Err refusal) = refusal.number
 
 abbrev pub answer_values : CensusAnswer → List ℕ
-answer_values (Counted c) = numbers_of c
-answer_values (Refused number place) = place ∷ []
+answer_values (Ok c) = numbers_of c
+answer_values (Err refusal) = refusal.place ∷ []

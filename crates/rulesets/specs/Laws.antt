@@ -12,7 +12,7 @@ use Rattle.std.specs.Prelude.{ℕ, suc, ◌+◌, ◌^◌, ◌<◌, ◌≤◌, �
 use Rattle.job.specs.Encoding.{encode, ◌∈◌}
 use Rattle.job.specs.Format.{job_of}
 use Rattle.job.specs.Checks.{check_job}
-use Rattle.job.specs.declared.Check.TheVariants.{Accepted}
+use Rattle.job.specs.Check.{Accepted}
 use Rattle.semantics.specs.Model.{Verdict, True, False, Undefined}
 use Rattle.turn.specs.Turn.{turn}
 use Rattle.turn.specs.declared.Kind.TheVariants.{Idle}
@@ -23,7 +23,7 @@ use Rattle.rulesets.specs.Jobs.{job_of_set}
 use Rattle.rulesets.specs.Says.{Says}
 use Rattle.rulesets.specs.Census.{first_verdict, turns_for, answer_number, answer_values}
 use Rattle.rulesets.specs.Worked.{Worked}
-use Rattle.rulesets.specs.declared.CensusAnswer.{CensusAnswer}
+use Rattle.rulesets.specs.CensusAnswer.{CensusAnswer}
 
 pub record Enumerated (n : ℕ) : Type 0 where
   pub count : length (all_sets n) ≡ set_count n

@@ -1,3 +1,4 @@
+pub mod CensusAnswer
 pub mod Sets
 pub mod Jobs
 pub mod Says

@@ -2,8 +2,10 @@
 // (specs/ and proofs/; 02, order 12). Crate counting counts them.
 #![tactic(auto)]
 
+use job::Refusal;
+
 // The five numbers of a size: how many sets make claim 0 true, false, undefined; the place of the first set that needs most changing turns, and those turns.
-#[derive(Clone, Copy)]
+#[derive(Clone, Copy, Debug, Default, PartialEq, Eq)]
 pub struct Counts {
     pub trues: u64,
     pub falses: u64,
@@ -12,9 +14,5 @@ pub struct Counts {
     pub turns: u64,
 }
 
-// What the call answers.
-#[derive(Clone, Copy)]
-pub enum CensusAnswer {
-    Counted(Counts),
-    Refused { number: u32, place: usize },
-}
+// What the call answers. The contracts name its two cases Counted and Refused (specs/CensusAnswer).
+pub type CensusAnswer = Result<Counts, Refusal>;

@@ -15,7 +15,7 @@ use Rattle.job.specs.Job.{body_count}
 use Rattle.job.specs.Format.{body_length_at, missing_at, head_before, body_start, literal_of}
 use Rattle.job.specs.Rows.{◌⨾◌, row, scan}
 use Rattle.job.specs.Checks.{check_job, check_header, check_parts, check_length, check_total, check_counts, check_offsets, check_heads, check_bodies, check_literals, check_questions}
-use Rattle.job.specs.declared.Check.TheVariants.{Accepted}
+use Rattle.job.specs.Check.{Accepted}
 use Rattle.job.specs.Encoding.{◌∈◌, encode, header_bytes, length_of}
 use Rattle.semantics.specs.Model.{program, heads, step, D, stage, K, U, verdict, verdicts}
 use Rattle.semantics.specs.Unfounded.{founded, unfounded, after, well_founded, unfounded_verdicts}

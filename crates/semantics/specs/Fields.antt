@@ -14,7 +14,7 @@ use Rattle.base.specs.Span.{span}
 use Rattle.job.specs.Job.{Rule, Job, ◌if◌, missing_record}
 use Rattle.job.specs.Encoding.{encode}
 use Rattle.job.specs.Checks.{check_job}
-use Rattle.job.specs.declared.Check.TheVariants.{Accepted}
+use Rattle.job.specs.Check.{Accepted}
 use Rattle.job.specs.declared.Literal.TheVariants.{Plain, Negated}
 use Rattle.semantics.specs.Model.{program, Verdict, True, False, Undefined, verdict, verdicts}
 use Rattle.semantics.specs.Missing.{extended, as_written}

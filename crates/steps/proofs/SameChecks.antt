@@ -13,7 +13,7 @@ use Rattle.base.proofs.Compare.{under-no}
 use Rattle.base.proofs.Counts.{count_same}
 use Rattle.job.specs.Job.{Job}
 use Rattle.job.specs.Rows.{◌⨾◌, row, scan}
-use Rattle.job.specs.declared.Check.{Check}
+use Rattle.job.specs.Check.{Check}
 use Rattle.table.specs.Layout.{used, header, opened_word, fixed_words, newest_word, answer_word, fresh, kept, most_value}
 use Rattle.table.specs.Ranges.{each, check_room, marked, bad_header, check_claim, check_worker, bad_answer, check_words, check_table}
 use Rattle.steps.specs.Agreeing.{Agree}

@@ -15,7 +15,7 @@ use Rattle.base.proofs.Bools.{neither, or_no, and_rest, and_no}
 use Rattle.base.proofs.Choose.{pick_true, pick-false}
 use Rattle.base.proofs.Compare.{under-no, under_le, over_yes, over_no, over_le, differs-no, differs_eq}
 use Rattle.job.specs.Job.{Job, literals_of}
-use Rattle.job.specs.declared.Check.TheVariants.{Accepted}
+use Rattle.job.specs.Check.{Accepted}
 use Rattle.job.proofs.Rows.{both, join, pass, row-no, scan_all, scan_none}
 use Rattle.table.specs.Layout.{used, mark, cursor, number, true_mark, undefined_mark}
 use Rattle.table.specs.Newest.{NewestKept}

@@ -1,23 +1,18 @@
 -- A started table: what its words are. Assumes nothing.
---   start-written       the words written one by one are `start_words`
+--   start-written       the header and the zeros written are `start_words`
 --   start-length        as long as before
 --   start-header, start-zero   a word of the header, and another word used
-use Prim.Native.Nat.{ℕ, zero, suc, ◌+◌, ◌-◌, ◌<◌, ◌≤◌}
-use mathlib.Core.Path.{◌≡◌, refl, ◌∙◌, ap, ap₂}
-use mathlib.Core.List.{List, ◌∷◌, ◌++◌}
+use Prim.Native.Nat.{ℕ, ◌+◌, ◌-◌, ◌<◌, ◌≤◌}
+use mathlib.Core.Path.{◌≡◌, refl, ◌∙◌, ap}
+use mathlib.Core.List.{List, ◌++◌}
 use native.Mathlib.Omega.{arith}
-use lib.ListN.{length, get_or, drop, replicate, length-append, length-drop, length-replicate, get_or-replicate, get_or-append, get_or-eq_default}
+use lib.ListN.{length, get_or, take, drop, replicate, length-append, length-drop, length-replicate, get_or-replicate, get_or-append}
 use lib.Seq.{get_or-append-add}
-use Rattle.base.specs.Span.{span}
-use Rattle.base.proofs.Span.{span_add}
+use borrow.Rule.Slice.PartMut.{put_mid}
+use Rattle.std.proofs.lemmas.List.{take_at, drop_at, drop-drop, length-take-le}
 use Rattle.job.specs.Job.{Job}
 use Rattle.table.specs.Layout.{used, fixed_words, header}
 use Rattle.table.specs.Start.{start_words}
-
-span_zeros : (f : ℕ → ℕ) (a n : ℕ) → ((k : ℕ) → a ≤ k → f k ≡ 0) → span f a n ≡ replicate n 0
-unfolding span
-span_zeros f a zero h = refl
-span_zeros f a (suc n) h = ap₂ ◌∷◌ (h a (omega arith)) (span_zeros f (suc a) n (λ k l. h k (omega arith)))
 
 -- how many words follow those of the header that never change
 abbrev rest : Job → ℕ
@@ -30,21 +25,18 @@ fixed j = refl
 pub header-length : (j : Job) {h : List ℕ} → h ≡ header j → length h ≡ fixed_words
 header-length j e = ap length e ∙ fixed j
 
-fixed-span : (j : Job) → span (λ k. get_or (header j) k 0) 0 fixed_words ≡ header j
-unfolding header span
-fixed-span j = refl
-
-past : (j : Job) (k : ℕ) → fixed_words ≤ k → get_or (header j) k 0 ≡ 0
-past j k l = get_or-eq_default (header j) 0 (omega (arith, fixed j))
-
 module _ (j : Job) (t : List ℕ) where
-  pub start-written : {l h : List ℕ} {i : ℕ} → h ≡ header j → i ≡ used j → l ≡ span (λ k. get_or h k 0) 0 i ++ drop i t → l ≡ start_words j t
-  unfolding start_words
-  start-written {l} {h} {i} e q w =
-      let n : used j ≡ fixed_words + rest j = omega arith in
-      w
-      ∙ ap₂ (λ (x : List ℕ) (y : ℕ). span (λ k. get_or x k 0) 0 y ++ drop y t) e q
-      ∙ ap (λ (x : List ℕ). x ++ drop (used j) t) (ap (span (λ k. get_or (header j) k 0) 0) n ∙ (span_add (λ k. get_or (header j) k 0) 0 fixed_words (rest j) ∙ ap₂ ◌++◌ (fixed-span j) (span_zeros (λ k. get_or (header j) k 0) fixed_words (rest j) (past j))))
+  -- the header h at the front, then zeros z in place of the other words used
+  pub start-written : {h z : List ℕ} {n : ℕ} → h ≡ header j → n ≡ used j → let l = h ++ drop fixed_words t in let m = n - fixed_words in z ≡ replicate (length (take m (drop fixed_words l))) 0 → used j ≤ length t → put_mid fixed_words m l z ≡ start_words j t
+  unfolding start_words header
+  start-written {h} {z} {n} e u q r =
+      let x = drop fixed_words t in
+      let k : length h ≡ fixed_words = header-length j e in
+      let f : take fixed_words (h ++ x) ≡ h = take_at h x fixed_words k in
+      let b : drop fixed_words (h ++ x) ≡ x = drop_at h x fixed_words k in
+      let m : length (take (rest j) x) ≡ rest j = length-take-le (rest j) x (omega (arith, length-drop fixed_words t)) in
+      let d : drop (rest j) x ≡ drop (used j) t = drop-drop (rest j) fixed_words t ∙ ap (λ (i : ℕ). drop i t) (omega arith) in
+      rw (q, u, f, b, m, d, e) refl
 
   pub start-length : used j ≤ length t → length (start_words j t) ≡ length t
   unfolding start_words header

@@ -11,8 +11,8 @@ use Rattle.base.specs.Compare.{under, over, differs}
 use Rattle.base.specs.Sets.{count}
 use Rattle.job.specs.Job.{Job, literals_of}
 use Rattle.job.specs.Rows.{◌⨾◌, row, scan}
-use Rattle.job.specs.declared.Check.{Check}
-use Rattle.job.specs.declared.Check.TheVariants.{Accepted}
+use Rattle.job.specs.Check.{Check}
+use Rattle.job.specs.Check.{Accepted}
 use Rattle.table.specs.Questions.{asked_by}
 use Rattle.table.specs.Layout.{used, fixed_words, header, opened_word, opened, mark_word, cursor_word, number_word, mark, cursor, number, awaited_word, answered_word, newest_word, answer_word}
 use Rattle.table.specs.Layout.{awaited, answered, kept, answer, most_value, true_mark, undefined_mark, fresh}

@@ -11,7 +11,7 @@ pub mod stores;
 pub mod words;
 
 // What reading a claim finds. A complete claim (a completed table entry) has a value.
-#[derive(Clone, Copy)]
+#[derive(Clone, Copy, Debug, PartialEq, Eq)]
 pub enum Reading {
     Fresh,
     Open,

@@ -12,8 +12,8 @@ fn failing_mark(literal: Literal) -> usize
     ensures { result ≡ failing_mark literal }
 {
     match literal {
-        Literal::Plain(claim) => words::FALSE_MARK,
-        Literal::Negated(claim) => words::TRUE_MARK,
+        Literal::Plain(_) => words::FALSE_MARK,
+        Literal::Negated(_) => words::TRUE_MARK,
     }
 }
 

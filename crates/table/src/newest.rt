@@ -1,11 +1,10 @@
 // A worker's newest open claim, as a search finds it: highest opening number, then highest claim. The contracts cite specs/Newest.
-ghost use Rattle.std.specs.Prelude.{◌≡◌, ℕ, ◌+◌, ◌≤◌, ◌<◌, length, get_or, set};
+ghost use Rattle.std.specs.Prelude.{◌≡◌, ◌+◌, ◌≤◌, ◌<◌, length, set};
 ghost use Rattle.job.specs.Job.{most_claims, most_workers};
 ghost use Rattle.table.specs.Layout.{workers_from, newest_at, answers_from};
 ghost use Rattle.table.specs.Newest.{is_newer, newer as newer_of, sought, Searched, with_newest};
 
 use crate::{stores, words};
-use base::wide;
 use job::checks::MOST_WORKERS;
 
 // Whether claim c is newer than claim d.
@@ -13,23 +12,16 @@ fn is_newer(table: &[u32], c: usize, d: usize) -> bool
     requires { (c < most_claims) × (workers_from (c + 1) ≤ length table.now) × (d < most_claims) × (workers_from (d + 1) ≤ length table.now) }
     ensures { result ≡ is_newer table.now c d }
 {
-    let last = words::number_at(table, d);
-    let number = words::number_at(table, c);
-    if d < c {
-        return last <= number;
-    }
-    last < number
+    (words::number_at(table, d), d) < (words::number_at(table, c), c)
 }
 
-// Claim c + 1, or best where that is newer; best is a claim + 1, or 0 for none.
+// Claim c + 1, or best where that is newer; best is a claim + 1, or 0 for none. No Option: a worker's third word holds it so, and the layout
+// of the words is fixed for C.
 pub fn newer(table: &[u32], c: usize, best: usize) -> usize
     requires { (c < most_claims) × (workers_from (c + 1) ≤ length table.now) × (best ≤ most_claims) × (workers_from best ≤ length table.now) }
     ensures { result ≡ newer_of table.now c best }
 {
-    if best == 0 {
-        return c + 1;
-    }
-    if is_newer(table, c, best - 1) {
+    if best == 0 || is_newer(table, c, best - 1) {
         return c + 1;
     }
     best
@@ -41,9 +33,7 @@ pub fn newest_owned(table: &[u32], claims: usize, w: usize) -> usize
     ensures { (result ≡ sought claims table.now w) × (result ≤ claims) }
 {
     let mut best: usize = 0;
-    let mut c = claims;
-    while 0 < c {
-        c -= 1;
+    for c in (0..claims).rev() {
         if words::mark_at(table, c) == w + 1 {
             best = newer(table, c, best);
         }
@@ -60,26 +50,16 @@ pub fn seek_newest(table: &mut [u32], claims: usize, w: usize)
     stores::set_newest(table, claims, w, found);
 }
 
-// Nothing found yet, for each worker.
-fn none_found() -> [u32; MOST_WORKERS]
-    ensures result_len { length result ≡ most_workers }
-    ensures by_index { (w : ℕ) → get_or result w 0 ≡ 0 }
-{
-    [0u32; MOST_WORKERS]
-}
-
 // What a search finds for each worker: one pass over the claims.
 pub fn newest_claims(table: &[u32], claims: usize) -> [u32; MOST_WORKERS]
     requires { (claims ≤ most_claims) × (workers_from claims ≤ length table.now) }
     ensures { Searched claims table.now result }
 {
-    let mut found = none_found();
-    let mut c = claims;
-    while 0 < c {
-        c -= 1;
+    let mut found = [0u32; MOST_WORKERS];
+    for c in (0..claims).rev() {
         let mark = words::mark_at(table, c);
         if 0 < mark && mark <= MOST_WORKERS {
-            let best = newer(table, c, wide::word(found[mark - 1]));
+            let best = newer(table, c, found[mark - 1] as usize);
             found[mark - 1] = best as u32;
         }
     }
@@ -93,6 +73,6 @@ pub fn keep_newest(table: &mut [u32], claims: usize, workers: usize)
 {
     let found = newest_claims(table, claims);
     for w in 0..workers {
-        stores::set_newest(table, claims, w, wide::word(found[w]));
+        stores::set_newest(table, claims, w, found[w] as usize);
     }
 }

@@ -2,15 +2,13 @@
 // The contracts cite specs/: Layout, Reading.
 ghost use Rattle.std.specs.Prelude.{◌≡◌, ◌<◌, leb, length, get_or};
 ghost use Rattle.base.specs.Number.{Number};
-ghost use Rattle.job.specs.Accepted.{WellFormed};
 ghost use Rattle.job.specs.Format.{job_of};
 ghost use Rattle.table.specs.Layout.{Place, opened_word, mark_word, cursor_word, number_word, workers_from, awaited_at, answered_at, newest_at, answers_from, answer_at, used, header};
 ghost use Rattle.table.specs.Layout.{opened, mark as mark_in, cursor, number, true_mark, value_of, mark_of_value};
 ghost use Rattle.table.specs.Reading.{reading_of};
 
 use crate::Reading;
-use base::wide;
-use job::{checks, format};
+use job::{Job, checks};
 
 // The header's words that never change; the one after them counts the claims opened so far.
 pub const FIXED_WORDS: usize = 7;
@@ -26,7 +24,7 @@ pub const MOST_WORDS: usize = CLAIMS_AT
     + 3 * checks::MOST_WORKERS
     + checks::MOST_QUESTIONS;
 
-// The marks of the values: each is the value, 1 to 3, and a base.
+// The marks of the values: each is the value, 1 to 3, and a base. Numbers, since a mark is a word of the table: the layout is fixed for C.
 pub const TRUE_MARK: usize = 256;
 
 pub const FALSE_MARK: usize = 257;
@@ -110,7 +108,7 @@ pub fn word_at(table: &[u32], i: usize) -> usize
     requires { i < length table.now }
     ensures { Number result (get_or table.now i 0) 4294967296 }
 {
-    wide::word(table[i])
+    table[i] as usize
 }
 
 // Claims opened so far.
@@ -174,25 +172,19 @@ pub fn answer_at(table: &[u32], claims: usize, workers: usize, k: usize) -> usiz
 }
 
 // Words used by a table of the job.
-pub fn used_words(job: &[u8]) -> usize
-    requires { WellFormed job.now }
+pub fn used_words(job: &Job) -> usize
     ensures { Number result (used (job_of job.now)) 65536 }
 {
-    answer_word(
-        format::claim_count(job),
-        format::worker_count(job),
-        format::question_count(job),
-    )
+    answer_word(job.claim_count(), job.worker_count(), job.question_count())
 }
 
 // The words that a table of the job begins with.
-pub fn header_words(job: &[u8]) -> [u32; FIXED_WORDS]
-    requires { WellFormed job.now }
+pub fn header_words(job: &Job) -> [u32; FIXED_WORDS]
     ensures { result ≡ header (job_of job.now) }
 {
-    let claims = format::claim_count(job);
-    let workers = format::worker_count(job);
-    let questions = format::question_count(job);
+    let claims = job.claim_count();
+    let workers = job.worker_count();
+    let questions = job.question_count();
     let workers_at = workers_from(claims);
     let answers_at = answers_from(claims, workers);
     let used = answer_word(claims, workers, questions);
@@ -214,14 +206,11 @@ pub fn is_complete(mark: usize) -> bool
     TRUE_MARK <= mark
 }
 
-// The value that a mark shows, or 0.
+// The value that a mark shows, or 0. No Option: a question's word holds it so, and the layout of the words is fixed for C.
 pub fn value_of(mark: usize) -> usize
     ensures { result ≡ value_of mark }
 {
-    if mark < TRUE_MARK {
-        return 0;
-    }
-    mark - VALUE_BASE
+    mark.saturating_sub(VALUE_BASE)
 }
 
 // The mark of a value.
@@ -232,21 +221,15 @@ pub fn mark_of_value(value: usize) -> usize
     VALUE_BASE + value
 }
 
-// What a mark shows.
+// What a mark shows. No From<usize>: a mark is a word of a claim, and no other number reads so.
 pub fn reading_of(mark: usize) -> Reading
     ensures { result ≡ reading_of mark }
 {
-    if mark == 0 {
-        return Reading::Fresh;
+    match mark {
+        0 => Reading::Fresh,
+        TRUE_MARK => Reading::True,
+        FALSE_MARK => Reading::False,
+        UNDEFINED_MARK => Reading::Undefined,
+        _ => Reading::Open,
     }
-    if mark == TRUE_MARK {
-        return Reading::True;
-    }
-    if mark == FALSE_MARK {
-        return Reading::False;
-    }
-    if mark == UNDEFINED_MARK {
-        return Reading::Undefined;
-    }
-    Reading::Open
 }

@@ -1,6 +1,6 @@
 -- The loop of `gather`: a queue, of which the part from i on holds all that is met and not yet looked at. Assumes nothing.
 --   passed-met        the literals that a claim has passed, as the index and the table's cursor give them
---   passed-room       meeting their claims stays within job, table and queue
+--   passed-room       meeting their claims stays within job, table and queue; passed-literals   they are literals of the job
 --   leads_parts, _of  what a claim leads to is what a walk over its passed literals meets
 --   Gathering         what the loop keeps, with its laws: gathering-start, _more, _done
 use Prim.Native.Nat.{ℕ, ◌+◌, ◌-◌, ◌≤◌, ◌<◌}
@@ -22,7 +22,7 @@ use Rattle.base.proofs.Paths.{trans, one, stays}
 use Rattle.base.proofs.Sets.{count_le}
 use Rattle.base.proofs.Span.{map-span}
 use Rattle.job.specs.Job.{claim_of, most_claims, most_literals}
-use Rattle.job.specs.Format.{claims, rules, literal_at, job_of}
+use Rattle.job.specs.Format.{claims, rules, literal_at, job_of, literals}
 use Rattle.job.specs.Accepted.{WellFormed}
 use Rattle.job.specs.Claims.{claim_start, end_in}
 use Rattle.job.specs.declared.Cursor.{Cursor}
@@ -124,6 +124,9 @@ module _ (s index t : List ℕ) (r : Ready s index t) (d : ℕ) (l : d < claims 
         ap₂ (λ (x : ℕ) (y : Cursor). met s x index t y) e q
         ∙ (ap (λ (x : ℕ). met s (rules s) index t (record { at = x; end = x + cursor t d })) passed-from
         ∙ ap (λ (n : ℕ). met_from s (rules s) index t n (over s index t r d l)) z)
+
+    pub passed-literals : c.end ≤ literals s
+    passed-literals = let p = claim-literals s r.job d in omega (arith, p.within, p.ordered, passed_most, passed-from, ap (λ (x : Cursor). x.end) q)
 
     pub passed-room : (n : ℕ) (k : Work) → n ≡ claims s → Gathered (claims s) k → Room s m index t n c k
     passed-room n k i f =

@@ -1,5 +1,5 @@
 -- Laws of the kept set (specs/KeptSet). Assumes nothing.
---   Dropping            a loop that takes the places of the members away: dropping-start, _more, _done
+--   Dropping            a loop that takes the places of the members away: dropping_more, _done
 --   some-kept           a set with a member is kept
 --   nothing-keeps       nothing is kept
 --   gathered-keeps      what was gathered into an empty set
@@ -9,6 +9,7 @@ use mathlib.Core.Path.{◌≡◌, refl, sym, ◌∙◌, ap, subst, subst⁻¹}
 use mathlib.Core.Bool.{◌||◌}
 use mathlib.Core.List.{List}
 use mathlib.Core.Logic.{◌⊎◌, inl, inr, ⊎_elim, by_cases}
+use Rattle.std.proofs.Common.{Option, None, Some}
 use native.Mathlib.Omega.{arith}
 use native.Mathlib.Decide.{ℕ_discrete}
 use lib.Dec.{T}
@@ -36,9 +37,6 @@ pub record Dropping (place₀ : List ℕ) (i : ℕ) (place : List ℕ) : Type 0 
   pub left : (c : ℕ) → (get_or place c 0 ≡ 0) ⊎ ((get_or place c 0 ≡ get_or place₀ c 0) × (i < get_or place₀ c 0))
 
 module _ {n : ℕ} {k : Work} (g : Gathered n k) where
-  pub dropping-start : Dropping k.place 0 k.place
-  dropping-start = record { long = refl; left = λ c. by_cases (ℕ_discrete (get_or k.place c 0) 0) (λ e. inl e) (λ m. inr (refl, omega arith)) }
-
   pub member-low : (i : ℕ) → i < k.top → get_or k.members i 0 < n
   member-low i l = omega (arith, seen_low k.place (get_or k.members i 0) (some-place k.place (get_or k.members i 0) (omega (arith, g.placed i l))), g.long)
 
@@ -81,22 +79,30 @@ module _ (place : List ℕ) (zeros : (c : ℕ) → get_or place c 0 ≡ 0) where
   none-gathered {n} few long wide =
       record { few = few; long = long; wide = wide; most = omega arith; placed = λ i l. absurd (omega arith); listed = λ c h. absurd (none-there c h) }
 
+-- what is kept is what one claim reaches
+pub is-that : {c x : ℕ} → Some c ≡ Some x → c ≡ x
+is-that e = cc
+
 -- where no claim is known to be the next
-pub none_found : {j : Job} {t : List ℕ} {k : Kept} {members : List ℕ} → k.next ≡ 0 → Found j t k members
-none_found z = record { inside = λ c e. absurd (omega arith); newest = λ c e d m l. absurd (omega arith) }
+pub none_found : {j : Job} {t : List ℕ} {k : Kept} {members : List ℕ} → k.chosen ≡ None → Found j t k members
+none_found z = record { inside = λ x e. absurd (cc); newest = λ x e d m l. absurd (cc) }
 
 -- a set with a member is kept
-pub some-kept : {n : ℕ} (k : Kept) (place members : List ℕ) → Gathered n (held k place members) → (k.from ≡ 0 → k.count ≡ 0) → (x : ℕ) → T (set_of place x) → 0 < k.from
+pub some-kept : {n : ℕ} (k : Kept) (place members : List ℕ) → Gathered n (held k place members) → (k.from ≡ None → k.count ≡ 0) → (x : ℕ) → T (set_of place x) → (c : ℕ) × (k.from ≡ Some c)
 some-kept k place members g none x h =
-    by_cases (ℕ_discrete k.from 0) (λ e. absurd (omega (arith, none e, (g.listed x h).0, place-some place x h))) (λ n. omega arith)
+    go k.from refl
+  where
+    go : (o : Option ℕ) → k.from ≡ o → (c : ℕ) × (k.from ≡ Some c)
+    go None e = absurd (omega (arith, none e, (g.listed x h).0, place-some place x h))
+    go (Some c) e = (c, e)
 
-pub nothing-keeps : (j : Job) (t place members : List ℕ) → ((c : ℕ) → get_or place c 0 ≡ 0) → j.claims ≤ most_claims → length place ≡ j.claims → j.claims ≤ length members → Keeps j t (record { from = 0; count = 0; worker = 0; next = 0 }) place members
+pub nothing-keeps : (j : Job) (t place members : List ℕ) → ((c : ℕ) → get_or place c 0 ≡ 0) → j.claims ≤ most_claims → length place ≡ j.claims → j.claims ≤ length members → Keeps j t (record { from = None; count = 0; chosen = None }) place members
 nothing-keeps j t place members zeros few long wide =
     record {
       gathered = none-gathered place zeros few long wide;
       nothing = λ e. refl;
-      low = omega arith;
-      reaches = λ l. absurd (omega arith);
+      low = λ x e. absurd (cc);
+      reaches = λ x e. absurd (cc);
       found = none_found refl;
     }
 
@@ -115,14 +121,13 @@ module _ (j : Job) (J : JobOk j) (t : List ℕ) where
   reached_through c l b h m d r = reached_in j t low-leads c l d (trans (in-reached j t low-leads c l b h) (in-reached j t low-leads b m d r))
 
   -- what was gathered into an empty set
-  pub gathered-keeps : (c : ℕ) {k₀ k : Work} → c < j.claims → ((d : ℕ) → get_or k₀.place d 0 ≡ 0) → Spread j t c k₀ k → Keeps j t (record { from = c + 1; count = k.top; worker = 0; next = 0 }) k.place k.members
+  pub gathered-keeps : (c : ℕ) {k₀ k : Work} → c < j.claims → ((d : ℕ) → get_or k₀.place d 0 ≡ 0) → Spread j t c k₀ k → Keeps j t (record { from = Some c; count = k.top; chosen = None }) k.place k.members
   gathered-keeps c {k₀} {k} l zeros p =
-      let z : c + 1 - 1 ≡ c = omega arith in
       record {
         gathered = p.gathered;
-        nothing = λ e. absurd (omega arith);
-        low = omega arith;
-        reaches = λ h d. subst⁻¹ (λ (x : ℕ). set_of k.place d ≡ is_in d (reached j t x)) z
+        nothing = λ e. absurd (cc);
+        low = λ x e. subst (λ (y : ℕ). y < j.claims) (is-that e) l;
+        reaches = λ x e d. subst (λ (y : ℕ). set_of k.place d ≡ is_in d (reached j t y)) (is-that e)
             (same (set_of k.place d) (is_in d (reached j t c))
             (λ q. ⊎_elim (λ y. absurd (none-there k₀.place zeros d y)) (λ y. y) (or_cases (set_of k₀.place d) (is_in d (reached j t c)) (subst T (p.is d) q)))
             (λ q. subst⁻¹ T (p.is d) (or_right (set_of k₀.place d) (is_in d (reached j t c)) q)));
@@ -131,9 +136,6 @@ module _ (j : Job) (J : JobOk j) (t : List ℕ) where
 
   -- claim c has passed to claim b
   module _ (c b : ℕ) (k : Kept) (place members : List ℕ) (p : Lacking j t c b k place members) where
-    start-low : 0 < k.from → k.from - 1 < j.claims
-    start-low h = omega (arith, p.low)
-
     -- the set as it is, where it is closed
     shut-keeps : ((x d : ℕ) → T (set_of place x) → T (is_in d (leads j t x)) → T (set_of place d)) → Keeps j t k place members
     shut-keeps shut =
@@ -141,9 +143,9 @@ module _ (j : Job) (J : JobOk j) (t : List ℕ) where
           gathered = p.gathered;
           nothing = p.nothing;
           low = p.low;
-          reaches = λ h d.
-              same (set_of place d) (is_in d (reached j t (k.from - 1))) (p.sound h d)
-              (λ q. inside-closed (λ x. T (set_of place x)) (λ x y l m. shut x y m l.leads_in) (k.from - 1) (start-low h) (p.start h) d q);
+          reaches = λ z e d.
+              same (set_of place d) (is_in d (reached j t z)) (p.sound z e d)
+              (λ q. inside-closed (λ x. T (set_of place x)) (λ x y l m. shut x y m l.leads_in) z (p.low z e) (p.start z e) d q);
           found = p.found;
         }
 
@@ -162,16 +164,14 @@ module _ (j : Job) (J : JobOk j) (t : List ℕ) where
       there_c : T (set_of place c)
       there_c = some-place place c (omega arith)
 
-      kept-some : 0 < k.from
-      kept-some = some-kept k place members p.gathered p.nothing c there_c
+      module _ (z : ℕ) (e : k.from ≡ Some z) where
+        to_b : T (is_in b (reached j t z))
+        to_b = reached-on z (p.low z e) c b (p.sound z e c there_c) p.passed
 
-      to_b : T (is_in b (reached j t (k.from - 1)))
-      to_b = reached-on (k.from - 1) (start-low kept-some) c b (p.sound kept-some c there_c) p.passed
-
-      into : (d : ℕ) → T (set_of place d || is_in d (reached j t b)) → T (is_in d (reached j t (k.from - 1)))
-      into d h =
-          ⊎_elim (λ y. p.sound kept-some d y) (λ y. reached_through (k.from - 1) (start-low kept-some) b to_b low-b d y)
-          (or_cases (set_of place d) (is_in d (reached j t b)) h)
+        into : (d : ℕ) → T (set_of place d || is_in d (reached j t b)) → T (is_in d (reached j t z))
+        into d h =
+            ⊎_elim (λ y. p.sound z e d y) (λ y. reached_through z (p.low z e) b to_b low-b d y)
+            (or_cases (set_of place d) (is_in d (reached j t b)) h)
 
       closed : (x y : ℕ) → Leads j t x y → T (set_of place x || is_in x (reached j t b)) → T (set_of place y || is_in y (reached j t b))
       closed x y l h =
@@ -182,17 +182,17 @@ module _ (j : Job) (J : JobOk j) (t : List ℕ) where
           (λ z. or_right (set_of place y) (is_in y (reached j t b)) (reached-on b low-b x y z l.leads_in))
           (or_cases (set_of place x) (is_in x (reached j t b)) h)
 
-      pub joined_keeps : Keeps j t (record { from = k.from; count = k'.top; worker = 0; next = 0 }) k'.place k'.members
+      pub joined_keeps : Keeps j t (record { from = k.from; count = k'.top; chosen = None }) k'.place k'.members
       joined_keeps =
           record {
             gathered = q.gathered;
-            nothing = λ e. absurd (omega (arith, kept-some));
+            nothing = λ e. let s = some-kept k place members p.gathered p.nothing c there_c in absurd (cc s.1);
             low = p.low;
-            reaches = λ h d.
+            reaches = λ z e d.
                 q.is d
-                ∙ same (set_of place d || is_in d (reached j t b)) (is_in d (reached j t (k.from - 1))) (into d)
+                ∙ same (set_of place d || is_in d (reached j t b)) (is_in d (reached j t z)) (into z e d)
                 (λ y.
-                inside-closed (λ x. T (set_of place x || is_in x (reached j t b))) closed (k.from - 1) (start-low kept-some)
-                (or_left (set_of place (k.from - 1)) (is_in (k.from - 1) (reached j t b)) (p.start kept-some)) d y);
+                inside-closed (λ x. T (set_of place x || is_in x (reached j t b))) closed z (p.low z e)
+                (or_left (set_of place z) (is_in z (reached j t b)) (p.start z e)) d y);
             found = none_found refl;
           }

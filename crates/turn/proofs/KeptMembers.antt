@@ -21,6 +21,7 @@ use Rattle.table.proofs.Keeping.{with-other}
 use Rattle.turn.specs.Turn.{reached, mark_all}
 use Rattle.turn.specs.KeptSet.{Member, Keeps, Places, Marked}
 use Rattle.turn.specs.declared.Kept.{Kept}
+use Rattle.std.proofs.Common.{None, Some}
 use Rattle.turn.proofs.Behind.{Alike, same as same-mark, below}
 use Rattle.turn.proofs.Jobs.{JobOk}
 use Rattle.turn.proofs.KeptLaws.{member-low, top-low}
@@ -47,15 +48,12 @@ module _ (j : Job) (J : JobOk j) (t : List ℕ) (k : Kept) (place members : List
         words = λ i l. omega (arith, member-low p.gathered i l);
       }
 
-  module _ (c : ℕ) (e : k.from ≡ c + 1) where
-    from_is : k.from - 1 ≡ c
-    from_is = omega arith
-
+  module _ (c : ℕ) (e : k.from ≡ Some c) where
     low_c : c < j.claims
-    low_c = omega (arith, p.low)
+    low_c = p.low c e
 
     pub kept_is : (d : ℕ) → set_of place d ≡ is_in d (reached j t c)
-    kept_is d = p.reaches (omega arith) d ∙ ap (λ (x : ℕ). is_in d (reached j t x)) from_is
+    kept_is d = p.reaches c e d
 
     pub member-reached : {d : ℕ} → Member members k.count d → In d (reached j t c)
     member-reached {d} m = subst T (kept_is d) (member-there m)
@@ -87,5 +85,5 @@ module _ (j : Job) (J : JobOk j) (t : List ℕ) (k : Kept) (place members : List
             (λ z. same-mark (past (W.mark_word x) (omega arith) ∙ marked_out m x (λ s. z s.1))))
             (λ y. same-mark (past (W.mark_word x) (omega arith) ∙ marked_out m x (λ s. y (member-there s.0))))
 
-        pub took-keeps : Keeps j v (record { from = k.from; count = k.count; worker = 0; next = 0 }) place members
+        pub took-keeps : Keeps j v (record { from = k.from; count = k.count; chosen = None }) place members
         took-keeps = alike_forgets j J t k place members p v alike (λ x h. past (W.cursor_word x) (omega arith) ∙ marked-cursor m x)

@@ -19,6 +19,7 @@ use Rattle.turn.specs.Turn.{lits, clear, open_claim}
 use Rattle.turn.specs.Ready.{Ready}
 use Rattle.turn.specs.KeptSet.{Keeps, Lacking}
 use Rattle.turn.specs.declared.Kept.{Kept}
+use Rattle.std.proofs.Common.{None}
 use Rattle.turn.proofs.Behind.{Behind, clear-not}
 use Rattle.turn.proofs.Cursors.{Passing, moved_range}
 use Rattle.turn.proofs.Jobs.{JobOk, job_ok, lits-length}
@@ -52,7 +53,7 @@ module _ {s t : List ℕ} {w c p b m : ℕ} {u : List ℕ} (g : Passing s t w c 
     passed_lacks h =
         next_lacks J moves k place members q step b next g.left (clear-not (job_of s) t c (W.cursor t c) (is (clear (job_of s) t c (W.cursor t c)) g.free)) (omega (arith, g.read))
 
-  pub passed-opens : Keeps (job_of s) u k place members → m ≡ 0 → w + 1 < W.true_mark → (v : ℕ) {a : ℕ} → a ≡ claims s → {x : List ℕ} → x ≡ set (open_claim u w b) (W.newest_at a w) v → Keeps (job_of s) x (record { from = k.from; count = k.count; worker = 0; next = 0 }) place members
+  pub passed-opens : Keeps (job_of s) u k place members → m ≡ 0 → w + 1 < W.true_mark → (v : ℕ) {a : ℕ} → a ≡ claims s → {x : List ℕ} → x ≡ set (open_claim u w b) (W.newest_at a w) v → Keeps (job_of s) x (record { from = k.from; count = k.count; chosen = None }) place members
   passed-opens q e small v {a} a-is {x} h =
       let range : InRange (job_of s) u = moved_range g r.job r.table in
       let low : b < (job_of s).claims = omega (arith, g.low, (sizes s).claims_are) in

@@ -3,7 +3,7 @@
 --   leads_grow          what is led to is still led to
 --   still-keeps         then the set is right still: `same-found` where numbers are the same too, and else the next claim is forgotten
 --   lacking-keeps       where claim c leads to b besides
-use Prim.Native.Nat.{ℕ, ◌-◌, ◌≤◌, ◌<◌}
+use Prim.Native.Nat.{ℕ, ◌≤◌, ◌<◌}
 use mathlib.Core.Path.{◌≡◌, refl, sym, ◌∙◌, subst, subst⁻¹}
 use mathlib.Core.List.{List}
 use mathlib.Core.Logic.{◌⊎◌, inl, inr, ⊎_elim}
@@ -17,6 +17,7 @@ use Rattle.table.specs.Layout.{mark, cursor, number, true_mark}
 use Rattle.turn.specs.Turn.{reached}
 use Rattle.turn.specs.KeptSet.{Member, Left, Found, Keeps, Lacking}
 use Rattle.turn.specs.declared.Kept.{Kept}
+use Rattle.std.proofs.Common.{None, Some}
 use Rattle.turn.proofs.Behind.{Alike, same as same-mark, below, alike-back, behind-alike}
 use Rattle.turn.proofs.Gathering.{seen_low}
 use Rattle.turn.proofs.Jobs.{JobOk}
@@ -54,8 +55,8 @@ module _ (j : Job) (J : JobOk j) (t t' : List ℕ) (g : Grows j t t') where
     member-claim : (d : ℕ) → Member members k.count d → d < j.claims
     member-claim d m = subst (λ (x : ℕ). x < j.claims) m.is (member-low p.gathered m.at m.before)
 
-    pub start-there : 0 < k.from → T (set_of place (k.from - 1))
-    start-there h = subst⁻¹ T (p.reaches h (k.from - 1)) (reached-start j t (k.from - 1) (omega (arith, p.low)))
+    pub start-there : (x : ℕ) → k.from ≡ Some x → T (set_of place x)
+    start-there x e = subst⁻¹ T (p.reaches x e x) (reached-start j t x (p.low x e))
 
     -- which claim is to move on: candidates are no more than they were, and no newer
     module _ (owners : (x : ℕ) → x < j.claims → mark t' x ≡ mark t x) (numbers : (x : ℕ) → x < j.claims → number t' x ≡ number t x) where
@@ -63,33 +64,32 @@ module _ (j : Job) (J : JobOk j) (t t' : List ℕ) (g : Grows j t t') where
       same-found =
           record {
             inside = p.found.inside;
-            newest = λ c e d m l.
+            newest = λ x e d m l.
                 let low = member-claim d m in
-                let was : Left j t k.worker d = record { own = sym (owners d low) ∙ l.own; some = omega (arith, l.some, g.cursors d low) } in
-                let o = p.found.newest c e d m was in
+                let was : Left j t x.worker d = record { own = sym (owners d low) ∙ l.own; some = omega (arith, l.some, g.cursors d low) } in
+                let o = p.found.newest x e d m was in
                 let a = numbers d low in
-                let b = numbers c (member-claim c (p.found.inside c e)) in
+                let b = numbers x.claim (member-claim x.claim (p.found.inside x e)) in
                 record { most = omega (arith, o.most); tie = λ z. o.tie (omega arith) };
           }
 
     -- nothing more is led to
     module _ (less : (x d : ℕ) → x < j.claims → Leads j t' x d → Leads j t x d) where
-      shut : (x y : ℕ) → Leads j t' x y → T (set_of place x) → 0 < k.from → T (set_of place y)
-      shut x y l h f =
-          subst⁻¹ T (p.reaches f y)
-          (reached-on j J t (k.from - 1) (omega (arith, p.low)) x y (subst T (p.reaches f x) h) (less x y (in-claims x h) l).leads_in)
+      shut : (x y : ℕ) → Leads j t' x y → T (set_of place x) → (z : ℕ) → k.from ≡ Some z → T (set_of place y)
+      shut x y l h z e =
+          subst⁻¹ T (p.reaches z e y)
+          (reached-on j J t z (p.low z e) x y (subst T (p.reaches z e x) h) (less x y (in-claims x h) l).leads_in)
 
-      still-reaches : 0 < k.from → (d : ℕ) → set_of place d ≡ is_in d (reached j t' (k.from - 1))
-      still-reaches f d =
-          let low : k.from - 1 < j.claims = omega (arith, p.low) in
-          same (set_of place d) (is_in d (reached j t' (k.from - 1))) (λ h. reached_grow (k.from - 1) low d (subst T (p.reaches f d) h))
-          (λ h. inside-closed j J t' (λ x. T (set_of place x)) (λ x y l m. shut x y l m f) (k.from - 1) low (start-there f) d h)
+      still-reaches : (z : ℕ) → k.from ≡ Some z → (d : ℕ) → set_of place d ≡ is_in d (reached j t' z)
+      still-reaches z e d =
+          same (set_of place d) (is_in d (reached j t' z)) (λ h. reached_grow z (p.low z e) d (subst T (p.reaches z e d) h))
+          (λ h. inside-closed j J t' (λ x. T (set_of place x)) (λ x y l m. shut x y l m z e) z (p.low z e) (start-there z e) d h)
 
       pub still-keeps : Found j t' k members → Keeps j t' k place members
       still-keeps f = record { gathered = p.gathered; nothing = p.nothing; low = p.low; reaches = still-reaches; found = f }
 
       -- the same set, the next claim forgotten
-      pub forgets-keeps : Keeps j t' (record { from = k.from; count = k.count; worker = 0; next = 0 }) place members
+      pub forgets-keeps : Keeps j t' (record { from = k.from; count = k.count; chosen = None }) place members
       forgets-keeps = record { gathered = p.gathered; nothing = p.nothing; low = p.low; reaches = still-reaches; found = none_found refl }
 
     -- claim c leads to b besides
@@ -101,7 +101,7 @@ module _ (j : Job) (J : JobOk j) (t t' : List ℕ) (g : Grows j t t') where
             nothing = p.nothing;
             low = p.low;
             start = start-there;
-            sound = λ h d i. reached_grow (k.from - 1) (omega (arith, p.low)) d (subst T (p.reaches h d) i);
+            sound = λ z e d i. reached_grow z (p.low z e) d (subst T (p.reaches z e d) i);
             onward = λ x d h l. ⊎_elim (λ z. inl (on x d h z)) (λ z. inr z) (less x d (in-claims x h) (record { leads_in = l }));
             passed = there.leads_in;
             found = f;
@@ -110,4 +110,4 @@ module _ (j : Job) (J : JobOk j) (t t' : List ℕ) (g : Grows j t t') where
           on : (x d : ℕ) → T (set_of place x) → Leads j t x d → T (set_of place d)
           on x d h z =
               let q = some-kept k place members p.gathered p.nothing x h in
-              subst⁻¹ T (p.reaches q d) (reached-on j J t (k.from - 1) (omega (arith, p.low)) x d (subst T (p.reaches q x) h) z.leads_in)
+              subst⁻¹ T (p.reaches q.0 q.1 d) (reached-on j J t q.0 (p.low q.0 q.1) x d (subst T (p.reaches q.0 q.1 x) h) z.leads_in)

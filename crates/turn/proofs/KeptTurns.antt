@@ -1,5 +1,5 @@
 -- What the parts of a turn leave of the kept set. Assumes nothing.
---   done_as            a turn that leaves this; done_through   a turn that is another
+--   done_through       a turn that is another
 --   words_keep         a store past the words of claims changes nothing: await-keeps, answer_keeps
 --   alike_forgets      where no claim becomes complete and no cursor moves, the set is right, and the next claim is forgotten: open_forgets
 --   Moved              a cursor moved on: what is led to more (moved_less)
@@ -17,8 +17,8 @@ use Rattle.turn.specs.Turn.{Turned, lits, open_claim}
 use Rattle.turn.specs.Ready.{Made}
 use Rattle.turn.specs.KeptSet.{Found, Keeps, Lacking, Done}
 use Rattle.turn.specs.declared.Kept.{Kept}
+use Rattle.std.proofs.Common.{None}
 use Rattle.turn.specs.declared.Kind.{Kind}
-use Rattle.turn.specs.declared.Taken.{Taken}
 use Rattle.turn.proofs.Behind.{Alike, same as same-mark, below, Behind, behind_rest, behind-alike}
 use Rattle.turn.proofs.Jobs.{JobOk}
 use Rattle.turn.proofs.KeptTables.{Grows, leads_grow, same-found, still-keeps, forgets-keeps, lacking-keeps}
@@ -26,11 +26,8 @@ use Rattle.turn.proofs.Leading.{leads-passed, passed-leads}
 use Rattle.turn.proofs.Reached.{Leads}
 use Rattle.turn.proofs.Words.{other, same, open-mark, open-cursor, open-marks, open-cursors}
 
--- a turn of this kind, which leaves this
-pub done_as : {j : Job} {r : Turned} {x : Taken} {kind : Kind} {kept : Kept} {t place members : List ℕ} → x ≡ record { kind = kind; kept = kept } → Made r kind t → Keeps j t kept place members → Done j r x t place members
-done_as {j} {r} {x} {kind} {kept} {t} {place} {members} e m k = subst⁻¹ (λ (y : Taken). Done j r y t place members) e (record { made = m; keeps = k })
-
-pub done_through : {j : Job} {r r' : Turned} {x : Taken} {t place members : List ℕ} → (Made r x.kind t → Made r' x.kind t) → Done j r x t place members → Done j r' x t place members
+-- a turn that is another
+pub done_through : {j : Job} {r r' : Turned} {x : Kind} {k : Kept} {t place members : List ℕ} → (Made r x t → Made r' x t) → Done j r x k t place members → Done j r' x k t place members
 done_through f d = record { made = f d.made; keeps = d.keeps }
 
 module _ (j : Job) (J : JobOk j) (t u : List ℕ) where
@@ -73,11 +70,11 @@ module _ (j : Job) (J : JobOk j) (t : List ℕ) (k : Kept) (place members : List
       ∙ (other (set t (W.answer_at a b i) v) (W.answered_at a w) n d (λ z. omega arith) ∙ other t (W.answer_at a b i) v d (λ z. omega arith)))
 
   module _ (u : List ℕ) (alike : (x : ℕ) → x < j.claims → Alike (W.mark t x) (W.mark u x)) (cursors : (x : ℕ) → x < j.claims → W.cursor u x ≡ W.cursor t x) where
-    pub alike_forgets : Keeps j u (record { from = k.from; count = k.count; worker = 0; next = 0 }) place members
+    pub alike_forgets : Keeps j u (record { from = k.from; count = k.count; chosen = None }) place members
     alike_forgets = forgets-keeps j J t u (forth j J t u alike cursors) k place members p (λ x d h. leads_grow j J u t (back j J t u alike cursors) x d h)
 
   -- a fresh claim b becomes open to w, and w's third word is stored
-  pub open_forgets : (w b : ℕ) → b < j.claims → W.mark t b ≡ 0 → W.cursor t b ≡ 0 → w + 1 < W.true_mark → W.workers_from j.claims ≤ length t → (v : ℕ) {a : ℕ} → a ≡ j.claims → {u : List ℕ} → u ≡ set (open_claim t w b) (W.newest_at a w) v → Keeps j u (record { from = k.from; count = k.count; worker = 0; next = 0 }) place members
+  pub open_forgets : (w b : ℕ) → b < j.claims → W.mark t b ≡ 0 → W.cursor t b ≡ 0 → w + 1 < W.true_mark → W.workers_from j.claims ≤ length t → (v : ℕ) {a : ℕ} → a ≡ j.claims → {u : List ℕ} → u ≡ set (open_claim t w b) (W.newest_at a w) v → Keeps j u (record { from = k.from; count = k.count; chosen = None }) place members
   open_forgets w b low fresh unread small room v {a} e {u} q =
       let there : W.number_word b < length t = omega arith in
       let past : (i : ℕ) → i < W.workers_from j.claims → get_or u i 0 ≡ get_or (open_claim t w b) i 0 =

@@ -4,7 +4,7 @@
 --   work-passes      it passes
 --   work_idle, work-completed   none was: some claim is another's; or all are w's, and become complete
 --   lent-part, alone-part   what completion is lent
-use Prim.Native.Nat.{ℕ, ◌+◌, ◌-◌, ◌<◌}
+use Prim.Native.Nat.{ℕ, ◌+◌, ◌-◌, ◌<◌, ◌≤◌}
 use mathlib.Core.Path.{◌≡◌, refl, sym, ◌∙◌, ap, subst, subst⁻¹}
 use mathlib.Core.Bool.{Bool, true, false, ◌&&◌}
 use mathlib.Core.List.{List}
@@ -29,12 +29,15 @@ use Rattle.table.proofs.Sizes.{sizes}
 use Rattle.turn.specs.Turn.{Turned, lits, reached, all_passed, completed_mark, mark_all, pass_turn, work_turn, keeping}
 use Rattle.turn.specs.Ready.{Ready, Made, Renewed}
 use Rattle.turn.specs.KeptSet.{Member, Left, free, FoundBy, Keeps, OwnsAll, Completes}
+use Rattle.turn.specs.declared.Chosen.{Chosen}
 use Rattle.turn.specs.declared.Kept.{Kept}
+use Rattle.std.proofs.Common.{Some}
 use Rattle.turn.specs.declared.Kind.{Kind}
 use Rattle.turn.specs.declared.Kind.TheVariants.{Idle, Completed}
 use Rattle.turn.proofs.Completing.{to_pass, J, within, free_left, left-free, to-pass, of_pass, passes}
 use Rattle.turn.proofs.KeptLaws.{member-low, top-low, reached-on}
 use Rattle.turn.proofs.KeptMembers.{there_member, kept_is, member-reached, reached_member}
+use Rattle.turn.proofs.Members.{part_member, member-part}
 use Rattle.turn.proofs.Making.{made_as, made_kept, made-renewed}
 use Rattle.turn.proofs.Marked.{marked_all}
 use Rattle.turn.proofs.Range.{mark_range}
@@ -50,11 +53,14 @@ module _ (s index t : List ℕ) (r : Ready s index t) (k : Kept) (place members 
   found-by =
       record {
         inside = p.found.inside;
-        newest = λ c z d m h. p.found.newest c z d m (free_left s index t r k.worker d (member-claim d m) h);
+        newest = λ x z d m h. p.found.newest x z d m (free_left s index t r x.worker d (member-claim d m) h);
       }
 
+  short : k.count ≤ length members
+  short = omega (arith, top-low p.gathered, p.gathered.wide)
+
   long : length (take k.count members) ≡ k.count
-  long = length-take-le k.count members (omega (arith, top-low p.gathered, p.gathered.wide))
+  long = length-take-le k.count members short
 
   at : (i : ℕ) → i < k.count → get_or (take k.count members) i 0 ≡ get_or members i 0
   at i l = get_or-take k.count members i 0 l
@@ -73,14 +79,7 @@ module _ (s index t : List ℕ) (r : Ready s index t) (k : Kept) (place members 
   pub lent-part : Lent s index t place (take k.count members)
   lent-part = record { job = r.job; indexed = r.indexed; table = r.table; long = p.gathered.long ∙ (sizes s).claims_are; numbered = numbered-part }
 
-  -- members of the part
-  part_member : {d : ℕ} → Member (take k.count members) (length (take k.count members)) d → Member members k.count d
-  part_member m = let h : m.at < k.count = omega (arith, m.before, long) in record { at = m.at; before = h; is = sym (at m.at h) ∙ m.is }
-
-  member-part : {d : ℕ} → Member members k.count d → Member (take k.count members) (length (take k.count members)) d
-  member-part m = record { at = m.at; before = omega (arith, m.before, long); is = at m.at m.before ∙ m.is }
-
-  module _ (w n : ℕ) (l : n < claims s) (e : k.from ≡ n + 1) where
+  module _ (w n : ℕ) (l : n < claims s) (e : k.from ≡ Some n) where
     kept_in : {d : ℕ} → Member members k.count d → In d (reached (job_of s) t n)
     kept_in m = member-reached (job_of s) (J s index t r w) t k place members p n e m
 
@@ -95,25 +94,25 @@ module _ (s index t : List ℕ) (r : Ready s index t) (k : Kept) (place members 
           (λ d i. let y = to-pass s index t r w n l d i in (in_kept y.0, left-free s index t r w d (member-claim d (in_kept y.0)) y.1)) (λ d m. refl) x)
           (newest_of t (to_pass (job_of s) t w n))
 
-      module _ (h : left ≡ 0 → ⊥) where
-        its : Member members k.count (left - 1) × T (free index t w (left - 1))
+      module _ (claim : ℕ) (h : left ≡ claim + 1) where
+        its : Member members k.count claim × T (free index t w claim)
         its = go x
           where
-            go : NewestOf t (λ d. Member members k.count d × T (free index t w d)) left → Member members k.count (left - 1) × T (free index t w (left - 1))
-            go (none z f) = absurd (h z)
-            go (some c z m f) = let q : left - 1 ≡ c = omega arith in subst⁻¹ (λ (y : ℕ). Member members k.count y × T (free index t w y)) q m
+            go : NewestOf t (λ d. Member members k.count d × T (free index t w d)) left → Member members k.count claim × T (free index t w claim)
+            go (none z f) = absurd (omega arith)
+            go (some c z m f) = let q : claim ≡ c = omega arith in subst⁻¹ (λ (y : ℕ). Member members k.count y × T (free index t w y)) q m
 
-        pub chosen-low : left - 1 < claims s
-        chosen-low = member-claim (left - 1) its.0
+        pub chosen-low : claim < claims s
+        chosen-low = member-claim claim its.0
 
-        pub chosen_left : Left (job_of s) t w (left - 1)
-        chosen_left = free_left s index t r w (left - 1) chosen-low its.1
+        pub chosen_left : Left (job_of s) t w claim
+        chosen_left = free_left s index t r w claim chosen-low its.1
 
-        pub chosen-own : owned t w (left - 1) ≡ true
-        chosen-own = eq-eqb (mark t (left - 1)) (w + 1) chosen_left.own
+        pub chosen-own : owned t w claim ≡ true
+        chosen-own = eq-eqb (mark t claim) (w + 1) chosen_left.own
 
         -- it may be kept
-        pub chosen-keeps : Keeps (job_of s) t (record { from = k.from; count = k.count; worker = w; next = left }) place members
+        pub chosen-keeps : Keeps (job_of s) t (record { from = k.from; count = k.count; chosen = Some (record { worker = w; claim = claim }) }) place members
         chosen-keeps =
             record {
               gathered = p.gathered;
@@ -121,18 +120,23 @@ module _ (s index t : List ℕ) (r : Ready s index t) (k : Kept) (place members 
               low = p.low;
               reaches = p.reaches;
               found = record {
-                inside = λ c z. let q : left - 1 ≡ c = omega arith in subst (Member members k.count) q its.0;
-                newest = λ c z d m y. older c z d (m, left-free s index t r w d (member-claim d m) y) x;
+                inside = λ y z. subst (λ (v : Chosen). Member members k.count v.claim) (is-chosen z) its.0;
+                newest = λ y z. subst (λ (v : Chosen). (d : ℕ) → Member members k.count d → Left (job_of s) t v.worker d → Older t d v.claim) (is-chosen z)
+                    (λ d m y. older d (m, left-free s index t r w d (member-claim d m) y) x);
               };
             }
           where
-            older : (c : ℕ) → left ≡ c + 1 → (d : ℕ) → Member members k.count d × T (free index t w d) → NewestOf t (λ d. Member members k.count d × T (free index t w d)) left → Older t d c
-            older c z d m (none q f) = absurd (h q)
-            older c z d m (some c' q o f) = let y : c' ≡ c = omega arith in subst (Older t d) y (f d m)
+            older : (d : ℕ) → Member members k.count d × T (free index t w d) → NewestOf t (λ d. Member members k.count d × T (free index t w d)) left → Older t d claim
+            older d m (none q f) = absurd (omega arith)
+            older d m (some c' q o f) = let y : c' ≡ claim = omega arith in subst (Older t d) y (f d m)
 
-        pub work-passes : {y : Kind} {u : List ℕ} → Made (keeping (job_of s) (pass_turn (job_of s) t w (left - 1))) y u → Made (keeping (job_of s) (work_turn (job_of s) t w n)) y u
+            is-chosen : {x y : Chosen} → Some x ≡ Some y → x ≡ y
+            is-chosen e = cc
+
+        pub work-passes : {y : Kind} {u : List ℕ} → Made (keeping (job_of s) (pass_turn (job_of s) t w claim)) y u → Made (keeping (job_of s) (work_turn (job_of s) t w n)) y u
         work-passes {y} {u} m =
-            subst⁻¹ (λ (v : Turned). Made (keeping (job_of s) v) y u) (passes s index t r w n l chosen_is h (left - 1) (kept_in its.0) chosen_left) m
+            let q : left - 1 ≡ claim = omega arith in
+            subst⁻¹ (λ (v : Turned). Made (keeping (job_of s) v) y u) (passes s index t r w n l chosen_is (λ z. omega arith) claim (kept_in its.0) chosen_left ∙ ap (pass_turn (job_of s) t w) q) m
 
       -- none was chosen
       module _ (z : left ≡ 0) where
@@ -184,7 +188,7 @@ module _ (s index t : List ℕ) (r : Ready s index t) (k : Kept) (place members 
               unfolding work_turn
               work-completed {u} y =
                   let m : y.marks ≡ mark_all (completed_mark (job_of s) t) (reached (job_of s) t n) t =
-                  marked_all (completed_mark (job_of s) t) (reached (job_of s) t n) _ t y.marks (λ d i. omega (arith, member-claim d (in_kept i), r.table.room, (sizes s).claims_are)) (λ d v. kept_in (part_member v)) (λ d i. member-part (in_kept i)) y.marked in
+                  marked_all (completed_mark (job_of s) t) (reached (job_of s) t n) _ t y.marks (λ d i. omega (arith, member-claim d (in_kept i), r.table.room, (sizes s).claims_are)) (λ d v. kept_in (part_member short v)) (λ d i. member-part short (in_kept i)) y.marked in
                   let g : Renewed (job_of s) w (mark_all (completed_mark (job_of s) t) (reached (job_of s) t n) t) u = subst (λ (v : List ℕ). Renewed (job_of s) w v u) m y.renewed in
                   made-renewed (job_of s) w (sought (job_of s).claims (mark_all (completed_mark (job_of s) t) (reached (job_of s) t n) t) w) small-job
                   (subst⁻¹ (NewestKept (job_of s)) g.is

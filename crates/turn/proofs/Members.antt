@@ -1,17 +1,18 @@
 -- The first n members of a list (`Member`, `Places`, specs/KeptSet). Assumes nothing.
 --   member_none, -up, _last, -cases   no member; one member more, from the fewer and back
+--   part_member, member-part, front-places   the first members as a list of their own
 --   Low t b        what b counts has words in the table
---   member-low     a member has; newest-low   and so has the newest of some of them
-use Prim.Native.Nat.{ℕ, ◌+◌, ◌≤◌}
+--   member-low     a member has
+use Prim.Native.Nat.{ℕ, ◌+◌, ◌≤◌, ◌<◌}
 use mathlib.Core.Path.{◌≡◌, sym, ◌∙◌, ap}
 use mathlib.Core.Logic.{◌⊎◌, inl, inr, by_cases}
 use mathlib.Core.List.{List}
 use native.Mathlib.Omega.{arith}
 use native.Mathlib.Decide.{dec_lt}
-use lib.ListN.{length, get_or}
+use lib.ListN.{length, get_or, take}
+use lib.Seq.{length-take-le, get_or-take}
 use Rattle.job.specs.Job.{most_claims}
 use Rattle.table.specs.Layout.{workers_from}
-use Rattle.table.specs.Newest.{NewestOf, none, some}
 use Rattle.turn.specs.KeptSet.{Member, Places}
 
 module _ {ms : List ℕ} where
@@ -29,6 +30,24 @@ module _ {ms : List ℕ} where
       by_cases (dec_lt m.at n) (λ l. inl (record { at = m.at; before = l; is = m.is }))
       (λ l. inr (sym m.is ∙ ap (λ (k : ℕ). get_or ms k 0) (omega (arith, m.before))))
 
+-- the first n members, as a list of their own
+module _ {ms : List ℕ} {n : ℕ} (l : n ≤ length ms) where
+  pub part_member : {d : ℕ} → Member (take n ms) (length (take n ms)) d → Member ms n d
+  part_member m =
+      let h : m.at < n = omega (arith, m.before, length-take-le n ms l) in
+      record { at = m.at; before = h; is = sym (get_or-take n ms m.at 0 h) ∙ m.is }
+
+  pub member-part : {d : ℕ} → Member ms n d → Member (take n ms) (length (take n ms)) d
+  member-part m = record { at = m.at; before = omega (arith, m.before, length-take-le n ms l); is = get_or-take n ms m.at 0 m.before ∙ m.is }
+
+  pub front-places : {t : List ℕ} → Places t ms n → Places t (take n ms) (length (take n ms))
+  front-places p =
+      record {
+        many = omega arith;
+        few = λ i h. let k : i < n = omega (arith, length-take-le n ms l) in rw (get_or-take n ms i 0 k) (p.few i k);
+        words = λ i h. let k : i < n = omega (arith, length-take-le n ms l) in rw (get_or-take n ms i 0 k) (p.words i k);
+      }
+
 pub record Low (t : List ℕ) (b : ℕ) : Type 0 where
   pub few : b ≤ most_claims
   pub words : workers_from b ≤ length t
@@ -36,7 +55,3 @@ pub record Low (t : List ℕ) (b : ℕ) : Type 0 where
 pub member-low : {t ms : List ℕ} {n d : ℕ} → Places t ms n → Member ms n d → Low t (d + 1)
 member-low p m =
     record { few = omega (arith, m.is, p.few m.at m.before); words = omega (arith, m.is, p.words m.at m.before) }
-
-pub newest-low : {t ms : List ℕ} {n b : ℕ} {P : ℕ → Type 0} → Places t ms n → ((d : ℕ) → P d → Member ms n d) → workers_from 0 ≤ length t → NewestOf t P b → Low t b
-newest-low p f h (none e g) = record { few = omega arith; words = omega arith }
-newest-low p f h (some c e q g) = let l = member-low p (f c q) in record { few = omega (arith, l.few); words = omega (arith, l.words) }

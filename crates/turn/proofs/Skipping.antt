@@ -17,7 +17,7 @@ use lib.ListN.{length, get_or, set}
 use Rattle.base.proofs.Bools.{is, is_true, is_false}
 use Rattle.base.proofs.Choose.{pick-false}
 use Rattle.job.specs.Job.{claim_of, rule_end, most_literals}
-use Rattle.job.specs.Format.{claims, rules, literals, literal_byte, literal_at, job_of}
+use Rattle.job.specs.Format.{claims, rules, literals, literal_at, job_of}
 use Rattle.job.specs.Claims.{claim_start, bound_at, end_in, past_rule}
 use Rattle.job.specs.declared.Cursor.{Cursor}
 use Rattle.job.specs.declared.Literal.{Literal}
@@ -99,9 +99,9 @@ module _ (s index t : List ℕ) (r : Ready s index t) (c : ℕ) (h : c < claims 
       back : at - 1 + 1 ≡ at
       back = omega arith
 
-      pub found-other : bound_at index at ≡ true → false ≡ found
+      pub found-other : bound_at index (at - 1 + 1) ≡ true → false ≡ found
       found-other d =
-          let e = end_here_in index (at - 1) (omega (arith, looking-low)) (ap (bound_at index) back ∙ d) in
+          let e = end_here_in index (at - 1) (omega (arith, looking-low)) d in
           none_found
           (λ b.
           by_cases (dec_lt i b.at) (λ o. x.hold b.at (omega (arith, there)) b.before b.fails)
@@ -109,14 +109,14 @@ module _ (s index t : List ℕ) (r : Ready s index t) (c : ℕ) (h : c < claims 
           let y = end_same c (job_of s).rules b.at i (omega arith) (omega (arith, b.within, before)) in
           omega (arith, end_at, there, before, b.within)))
 
-      module _ (d : bound_at index at ≡ false) where
+      module _ (d : bound_at index (at - 1 + 1) ≡ false) where
         same_back : end_in index (at - 1) ≡ claim_start s c + rule_end c (job_of s).rules n
-        same_back = end-next_in index (at - 1) (omega (arith, looking-low)) (ap (bound_at index) back ∙ d) ∙ (ap (end_in index) back ∙ x.same)
+        same_back = end-next_in index (at - 1) (omega (arith, looking-low)) d ∙ (ap (end_in index) back ∙ x.same)
+
+        pub back-below : at - 1 < literals s
+        back-below = omega (arith, x.starts, x.to, next_low)
 
         module _ {m : ℕ} (q : m ≡ rules s) where
-          pub back_byte : literal_byte m (at - 1) + 2 ≤ length s
-          back_byte = omega (arith, x.starts, x.to, next_low, r.job.sized.size)
-
           pub back-word : mark_word (claim_of (literal_at s m (at - 1))) < length t
           back-word =
               let y : claim_of (literal_at s (rules s) (at - 1)) < claims s = r.job.literal (at - 1) (omega (arith, x.starts, x.to, next_low)) in

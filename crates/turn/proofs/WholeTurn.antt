@@ -54,15 +54,12 @@ module _ (s t : List ℕ) (w : ℕ) (K : NewestKept (job_of s) t) {a : ℕ} (awa
     unfolding base_turn
     asks e m = by_part (job_of s) t w (pick_true _ _ _ (eq-eqb _ _ (sym awaits ∙ free)) ∙ pick_true _ _ _ (eq-eqb _ _ (newest_of ∙ e))) m
 
-    pub works : (n ≡ 0 → ⊥) → {kind : Kind} {u : List ℕ} → Made (keeping (job_of s) (work_turn (job_of s) t w (n - 1))) kind u → Made (turn (job_of s) t w) kind u
+    pub works : (v : ℕ) → n ≡ v + 1 → {kind : Kind} {u : List ℕ} → Made (keeping (job_of s) (work_turn (job_of s) t w v)) kind u → Made (turn (job_of s) t w) kind u
     unfolding base_turn
-    works d m =
-        by_part (job_of s) t w
-        (pick_true _ _ _ (eq-eqb _ _ (sym awaits ∙ free)) ∙ (pick-false _ _ _ (ne_eqb _ _ (λ e. d (sym newest_of ∙ e))) ∙ ap (λ (x : ℕ). work_turn (job_of s) t w (x - 1)) newest_of)) m
+    works v q m =
+        let e : sought (job_of s).claims t w - 1 ≡ v = omega (arith, newest_of) in
+        by_part (job_of s) t w (pick_true _ _ _ (eq-eqb _ _ (sym awaits ∙ free)) ∙ (pick-false _ _ _ (ne_eqb (sought (job_of s).claims t w) 0 (λ z. omega (arith, newest_of))) ∙ ap (work_turn (job_of s) t w) e)) m
 
 -- the claim that the third word names is what a search finds
-pub newest-sought : (s t : List ℕ) (w : ℕ) → NewestKept (job_of s) t → w < workers s → {n : ℕ} → n ≡ kept (job_of s) t w → (n ≡ 0 → ⊥) → n - 1 + 1 ≡ sought (claims s) t w
-newest-sought s t w K small {n} e d =
-    let h : n ≡ sought (job_of s).claims t w = e ∙ K.is w (omega (arith, (sizes s).workers_are)) in
-    let z : n - 1 + 1 ≡ n = omega arith in
-    z ∙ (h ∙ ap (λ (a : ℕ). sought a t w) (sizes s).claims_are)
+pub newest-sought : (s t : List ℕ) (w : ℕ) → NewestKept (job_of s) t → w < workers s → {n : ℕ} → n ≡ kept (job_of s) t w → (v : ℕ) → n ≡ v + 1 → v + 1 ≡ sought (claims s) t w
+newest-sought s t w K small e v q = sym q ∙ (e ∙ K.is w (omega (arith, (sizes s).workers_are)) ∙ ap (λ (a : ℕ). sought a t w) (sizes s).claims_are)

@@ -1,6 +1,8 @@
 -- The set that a run keeps from turn to turn: what one claim reaches, and which claim of it was to move on when that was last looked for.
---   Kept (declared in src/lib.rt)   `from`: the claim whose reached claims are kept + 1, 0 where nothing is kept; `count`: how many they are;
---                       `next`: the claim C that was found for worker `worker` + 1, 0 where none is known
+--   Kept (declared in src/lib.rt)   `from`: the claim whose reached claims are kept, if any are; `count`: how many they are;
+--                       `chosen`: the claim C that was found, and the worker for whom, if one is known
+--   HeldSet (declared there)        Kept, and the room for its members and their places
+--   word_of o           a claim that was found, as a table's words have it: it + 1, or 0 for none
 --   held k place members   its members and their places
 --   Member members n d  d is one of the first n members
 --   Left j t w c        claim c is w's, and has a literal left
@@ -10,11 +12,11 @@
 --   free index t w c    claim c is w's, and has a literal left, by the index
 --   FoundBy index t k members   Found, by the index
 --   Places t members n  the words of the first n members stand in the table
---   Done j r x t place members   a turn was made as the definition r says, with the table t at exit, and what it keeps is right
+--   Done j r kind k t place members   a turn was made as the definition r says, of this kind and with the table t at exit, and what is kept is right
 --   OwnsAll t w members n r   r says whether the first n members are w's
 --   Marked f S t u      the table u is t, but the claims S have the marks f
 --   Completes j t w members u   u is t with the members complete, and with w's third word as a search finds it then
-use Rattle.std.specs.Prelude.{ℕ, ◌+◌, ◌-◌, ◌<◌, ◌≤◌, ◌≡◌, Bool, true, false, not, ◌&&◌, List, ◌⊎◌, T, length, get_or}
+use Rattle.std.specs.Prelude.{ℕ, ◌+◌, ◌<◌, ◌≤◌, ◌≡◌, Option, None, Some, Bool, true, false, not, ◌&&◌, List, ◌⊎◌, T, length, get_or}
 use Rattle.base.specs.Lists.{is_in}
 use Rattle.base.specs.Sets.{set_of}
 use Rattle.job.specs.Job.{Job, most_claims}
@@ -23,8 +25,9 @@ use Rattle.table.specs.Newest.{Older}
 use Rattle.turn.specs.Turn.{Turned, lits, leads, reached, completed_mark}
 use Rattle.turn.specs.Gather.{Work, Gathered}
 use Rattle.turn.specs.Ready.{Made, Renewed, passed_in}
+use Rattle.turn.specs.declared.Chosen.{Chosen}
 use Rattle.turn.specs.declared.Kept.{Kept}
-use Rattle.turn.specs.declared.Taken.{Taken}
+use Rattle.turn.specs.declared.Kind.{Kind}
 
 abbrev pub held : Kept → List ℕ → List ℕ → Work
 held k place members = record { place = place; members = members; top = k.count }
@@ -39,22 +42,22 @@ pub record Left (j : Job) (t : List ℕ) (w c : ℕ) : Type 0 where
   pub some : cursor t c < length (lits j c)
 
 pub record Found (j : Job) (t : List ℕ) (k : Kept) (members : List ℕ) : Type 0 where
-  pub inside : (c : ℕ) → k.next ≡ c + 1 → Member members k.count c
-  pub newest : (c : ℕ) → k.next ≡ c + 1 → (d : ℕ) → Member members k.count d → Left j t k.worker d → Older t d c
+  pub inside : (x : Chosen) → k.chosen ≡ Some x → Member members k.count x.claim
+  pub newest : (x : Chosen) → k.chosen ≡ Some x → (d : ℕ) → Member members k.count d → Left j t x.worker d → Older t d x.claim
 
 pub record Keeps (j : Job) (t : List ℕ) (k : Kept) (place members : List ℕ) : Type 0 where
   pub gathered : Gathered j.claims (held k place members)
-  pub nothing : k.from ≡ 0 → k.count ≡ 0
-  pub low : k.from ≤ j.claims
-  pub reaches : 0 < k.from → (d : ℕ) → set_of place d ≡ is_in d (reached j t (k.from - 1))
+  pub nothing : k.from ≡ None → k.count ≡ 0
+  pub low : (x : ℕ) → k.from ≡ Some x → x < j.claims
+  pub reaches : (x : ℕ) → k.from ≡ Some x → (d : ℕ) → set_of place d ≡ is_in d (reached j t x)
   pub found : Found j t k members
 
 pub record Lacking (j : Job) (t : List ℕ) (c b : ℕ) (k : Kept) (place members : List ℕ) : Type 0 where
   pub gathered : Gathered j.claims (held k place members)
-  pub nothing : k.from ≡ 0 → k.count ≡ 0
-  pub low : k.from ≤ j.claims
-  pub start : 0 < k.from → T (set_of place (k.from - 1))
-  pub sound : 0 < k.from → (d : ℕ) → T (set_of place d) → T (is_in d (reached j t (k.from - 1)))
+  pub nothing : k.from ≡ None → k.count ≡ 0
+  pub low : (x : ℕ) → k.from ≡ Some x → x < j.claims
+  pub start : (x : ℕ) → k.from ≡ Some x → T (set_of place x)
+  pub sound : (x : ℕ) → k.from ≡ Some x → (d : ℕ) → T (set_of place d) → T (is_in d (reached j t x))
   pub onward : (x d : ℕ) → T (set_of place x) → T (is_in d (leads j t x)) → T (set_of place d) ⊎ ((x ≡ c) × (d ≡ b))
   pub passed : T (is_in b (leads j t c))
   pub found : Found j t k members
@@ -62,18 +65,22 @@ pub record Lacking (j : Job) (t : List ℕ) (c b : ℕ) (k : Kept) (place member
 abbrev pub free : List ℕ → List ℕ → ℕ → ℕ → Bool
 free index t w c = owned t w c && not (passed_in index t c)
 
+abbrev pub word_of : Option ℕ → ℕ
+word_of None = 0
+word_of (Some c) = c + 1
+
 pub record FoundBy (index t : List ℕ) (k : Kept) (members : List ℕ) : Type 0 where
-  pub inside : (c : ℕ) → k.next ≡ c + 1 → Member members k.count c
-  pub newest : (c : ℕ) → k.next ≡ c + 1 → (d : ℕ) → Member members k.count d → T (free index t k.worker d) → Older t d c
+  pub inside : (x : Chosen) → k.chosen ≡ Some x → Member members k.count x.claim
+  pub newest : (x : Chosen) → k.chosen ≡ Some x → (d : ℕ) → Member members k.count d → T (free index t x.worker d) → Older t d x.claim
 
 pub record Places (t members : List ℕ) (n : ℕ) : Type 0 where
   pub many : n ≤ length members
   pub few : (i : ℕ) → i < n → get_or members i 0 < most_claims
   pub words : (i : ℕ) → i < n → workers_from (get_or members i 0 + 1) ≤ length t
 
-pub record Done (j : Job) (r : Turned) (x : Taken) (t place members : List ℕ) : Type 0 where
-  pub made : Made r x.kind t
-  pub keeps : Keeps j t x.kept place members
+pub record Done (j : Job) (r : Turned) (kind : Kind) (k : Kept) (t place members : List ℕ) : Type 0 where
+  pub made : Made r kind t
+  pub keeps : Keeps j t k place members
 
 pub record OwnsAll (t : List ℕ) (w : ℕ) (members : List ℕ) (n : ℕ) (r : Bool) : Type 0 where
   pub yes : r ≡ true → (d : ℕ) → Member members n d → mark t d ≡ w + 1

@@ -7,7 +7,7 @@ ghost use Rattle.turn.specs.Turn.{lits, clear};
 ghost use Rattle.turn.specs.Ready.{Ready};
 ghost use Rattle.turn.specs.Gather.{onward};
 
-use job::{ClaimIndex, Cursor, Literal, claims, format};
+use job::{ClaimIndex, Cursor, Job, Literal, claims, format};
 use table::literals;
 
 // The cursor past this literal, its current one, or past its rule where the literal is complete and false: what stands behind leads nowhere.
@@ -23,20 +23,17 @@ pub fn moved_on(index: &ClaimIndex, table: &[u32], literal: Literal, cursor: Cur
 
 // Whether an earlier literal of the rule of claim c's next literal is complete and false. It looks back from the next literal to where its
 // rule starts, and no further.
-pub fn rule_failed(job: &[u8], index: &ClaimIndex, table: &[u32], c: usize, passed: usize) -> bool
+pub fn rule_failed(job: &Job, index: &ClaimIndex, table: &[u32], c: usize, passed: usize) -> bool
     requires ready { Ready job.now index.now table.now }
-    requires c_bound { (c < claims_of job.now) × (passed < length (lits (job_of job.now) c)) }
+    requires within { (c < claims_of job.now) × (passed < length (lits (job_of job.now) c)) }
     ensures { result ≡ not (clear (job_of job.now) table.now c passed) }
 {
-    let rules = format::rule_count(job);
     let start = Cursor::over(index, c, 0).at;
-    let mut at = start + passed;
-    while start < at {
-        if claims::bounded(index, at) {
+    for at in (start..start + passed).rev() {
+        if claims::bounded(index, at + 1) {
             return false;
         }
-        at -= 1;
-        if literals::failed(table, format::literal_at(job, rules, at)) {
+        if literals::failed(table, job.literal_at(at)) {
             return true;
         }
     }

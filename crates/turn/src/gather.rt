@@ -2,14 +2,13 @@
 ghost use Rattle.std.specs.Prelude.{◌≡◌, false, ◌+◌, ◌≤◌, ◌<◌, length, get_or};
 ghost use Rattle.base.specs.Sets.{set_of};
 ghost use Rattle.job.specs.Job.{most_claims, most_literals};
-ghost use Rattle.job.specs.Format.{claims, job_of};
+ghost use Rattle.job.specs.Format.{claims, rules, literals, job_of};
 ghost use Rattle.table.specs.Layout.{number_word, workers_from, cursor as passed_by};
 ghost use Rattle.turn.specs.Ready.{Ready};
 ghost use Rattle.turn.specs.Gather.{met, Gathered, Room, visit as visit_of, visits, Leading, Spread};
 
 use crate::failing;
-use base::wide;
-use job::{ClaimIndex, Cursor, format};
+use job::{ClaimIndex, Cursor, Job, format};
 use table::words;
 
 // Meets claim b: it joins the set, unless it is complete or was met before. How many members the set then has.
@@ -30,22 +29,22 @@ fn visit(table: &[u32], b: usize, place: &mut [u16], members: &mut [u16], top: u
 
 // Meets the claims of the literals that the cursor has left, and that stand behind no false one, in order. How many members the set then has.
 fn expand(
-    job: &[u8],
+    job: &Job,
     index: &ClaimIndex,
     table: &[u32],
-    rules: usize,
     from: Cursor,
     place: &mut [u16],
     members: &mut [u16],
     bottom: usize,
 ) -> usize
-    requires { Room job.now rules index.now table.now (length place.old) from (record { place = place.old; members = members.old; top = bottom }) }
-    ensures { visits table.now (met job.now rules index.now table.now from) (record { place = place.old; members = members.old; top = bottom }) ≡ record { place = place.new; members = members.new; top = result } }
+    requires room { Room job.now (rules job.now) index.now table.now (length place.old) from (record { place = place.old; members = members.old; top = bottom }) }
+    requires literals { from.end ≤ literals job.now }
+    ensures { visits table.now (met job.now (rules job.now) index.now table.now from) (record { place = place.old; members = members.old; top = bottom }) ≡ record { place = place.new; members = members.new; top = result } }
 {
     let mut cursor = from;
     let mut top = bottom;
     while !cursor.at_end() {
-        let literal = cursor.current(job, rules);
+        let literal = cursor.current(job);
         top = visit(table, format::claim_of(literal), place, members, top);
         cursor = failing::moved_on(index, table, literal, cursor);
     }
@@ -68,7 +67,7 @@ fn passed_over(index: &ClaimIndex, table: &[u32], c: usize) -> Cursor
 // Each claim joins once at most, and each passed literal of a claim that joins is looked at once at most. The claim met first is looked at first: the next one
 // is known long before its turn, so that the processor need not wait for it.
 pub fn gather(
-    job: &[u8],
+    job: &Job,
     index: &ClaimIndex,
     table: &[u32],
     claim: usize,
@@ -82,14 +81,13 @@ pub fn gather(
     requires leading { Leading (job_of job.now) table.now place.old claim }
     ensures { Spread (job_of job.now) table.now claim (record { place = place.old; members = members.old; top = count }) (record { place = place.new; members = members.new; top = result }) }
 {
-    let rules = format::rule_count(job);
     let mut i = count;
     let mut top = count + 1;
     place[claim] = top as u16;
     members[i] = claim as u16;
     while i < top {
-        let from = passed_over(index, table, wide::half(members[i]));
-        top = expand(job, index, table, rules, from, place, members, top);
+        let from = passed_over(index, table, usize::from(members[i]));
+        top = expand(job, index, table, from, place, members, top);
         i += 1;
     }
     top

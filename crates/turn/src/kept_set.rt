@@ -1,121 +1,111 @@
 // The set that a run keeps from turn to turn: what one claim reaches, with its members in the order in which they were gathered, and the claim of it that was
 // to move on when that was last looked for. The contracts cite specs/KeptSet.
-ghost use Rattle.std.specs.Prelude.{◌≡◌, ℕ, ◌+◌, ◌<◌, length, get_or};
+ghost use Rattle.std.specs.Prelude.{◌≡◌, not, List, ℕ, ◌+◌, ◌≤◌, ◌<◌, T, None, Some, length, get_or};
+ghost use Rattle.job.specs.Job.{Job as Terms, most_claims, most_workers};
 ghost use Rattle.job.specs.Format.{claims, job_of};
+ghost use Rattle.table.specs.Layout.{fresh};
 ghost use Rattle.turn.specs.Ready.{Ready};
 ghost use Rattle.turn.specs.Gather.{Gathered};
-ghost use Rattle.turn.specs.KeptSet.{held, Keeps, Lacking};
+ghost use Rattle.turn.specs.KeptSet.{Member, held, Keeps, Lacking, Places, OwnsAll, Marked};
 
-use crate::{Kept, Kind, Taken, gather};
-use base::wide;
-use job::ClaimIndex;
+use crate::{HeldSet, Kept, gather, marks, remaining};
+use job::{ClaimIndex, Job};
 
 impl Kept {
     // Nothing.
     pub fn nothing() -> Kept
-        ensures { result ≡ record { from = 0; count = 0; worker = 0; next = 0 } }
+        ensures { result ≡ record { from = None; count = 0; chosen = None } }
     {
         Kept {
-            from: 0,
+            from: None,
             count: 0,
-            worker: 0,
-            next: 0,
+            chosen: None,
         }
     }
+}
 
-    // The same set, with the claim that is to move on for worker w + 1.
-    pub fn choosing(self, w: usize, next: usize) -> Kept
-        ensures { result ≡ record { from = self.from; count = self.count; worker = w; next = next } }
+impl<'a> HeldSet<'a> {
+    // Nothing is kept yet: that is right of every table of a job for whose claims there is room.
+    pub fn new(place: &'a mut [u16], members: &'a mut [u16]) -> HeldSet<'a>
+        requires zeros { (c : ℕ) → get_or place.old c 0 ≡ 0 }
+        ensures keeps { (j : Terms) (t : List ℕ) → j.claims ≤ most_claims → length place.old ≡ j.claims → j.claims ≤ length members.old → Keeps j t result.kept result.place.now result.members.now }
+        ensures room { (result.place.now ≡ place.old) × (result.members.now ≡ members.old) }
+        ensures kept { result.kept ≡ record { from = None; count = 0; chosen = None } }
     {
-        Kept {
-            from: self.from,
-            count: self.count,
-            worker: w,
-            next,
+        HeldSet {
+            kept: Kept::nothing(),
+            place,
+            members,
         }
-    }
-
-    // The same set: which claim is to move on is forgotten.
-    pub fn forgotten(self) -> Kept
-        ensures { result ≡ record { from = self.from; count = self.count; worker = 0; next = 0 } }
-    {
-        self.choosing(0, 0)
-    }
-
-    // What a turn of this kind leaves.
-    pub fn after(self, kind: Kind) -> Taken
-        ensures { result ≡ record { kind = kind; kept = self } }
-    {
-        Taken { kind, kept: self }
     }
 
     // The set is dropped: no claim has a place any more.
-    pub fn dropped(self, place: &mut [u16], members: &[u16]) -> Kept
-        requires { Gathered (length place.old) (held self place.old members.now) }
-        ensures { (result ≡ record { from = 0; count = 0; worker = 0; next = 0 }) × ((c : ℕ) → get_or place.new c 0 ≡ 0) }
+    pub fn clear(&mut self)
+        requires { Gathered (length self.old.place.now) (held self.old.kept self.old.place.now self.old.members.now) }
+        ensures kept { self.new.kept ≡ record { from = None; count = 0; chosen = None } }
+        ensures zeros { (c : ℕ) → get_or self.new.place.now c 0 ≡ 0 }
+        ensures room { (length self.new.place.now ≡ length self.old.place.now) × (self.new.members.now ≡ self.old.members.now) }
     {
-        let count = self.count;
-        for i in 0..count {
-            place[wide::half(members[i])] = 0;
+        // By index: tried over the members, which lends the set while a place is written; the proof doesn't cover that.
+        for i in 0..self.kept.count {
+            let member = usize::from(self.members[i]);
+            self.place[member] = 0;
         }
-        Kept::nothing()
+        self.kept = Kept::nothing();
     }
 
     // What claim c reaches: the set as it is kept, or gathered anew.
-    pub fn reaching(
-        self,
-        job: &[u8],
-        index: &ClaimIndex,
-        table: &[u32],
-        c: usize,
-        place: &mut [u16],
-        members: &mut [u16],
-    ) -> Kept
+    pub fn reach(&mut self, job: &Job, index: &ClaimIndex, table: &[u32], c: usize)
         requires ready { Ready job.now index.now table.now × (c < claims job.now) }
-        requires keeps { Keeps (job_of job.now) table.now self place.old members.old }
-        ensures { Keeps (job_of job.now) table.now result place.new members.new × (result.from ≡ c + 1) }
+        requires keeps { Keeps (job_of job.now) table.now self.old.kept self.old.place.now self.old.members.now }
+        ensures { Keeps (job_of job.now) table.now self.new.kept self.new.place.now self.new.members.now × (self.new.kept.from ≡ Some c) }
     {
-        if self.from == c + 1 {
-            return self;
+        if self.kept.from == Some(c) {
+            return;
         }
-        self.dropped(place, members);
-        let count = gather::gather(job, index, table, c, place, members, 0);
-        Kept {
-            from: c + 1,
+        self.clear();
+        let count = gather::gather(job, index, table, c, self.place, self.members, 0);
+        self.kept = Kept {
+            from: Some(c),
             count,
-            worker: 0,
-            next: 0,
-        }
+            chosen: None,
+        };
+    }
+
+    // Whether the members are all w's.
+    pub fn all_owned(&self, table: &[u32], w: usize) -> bool
+        requires { Places table.now self.now.members.now self.now.kept.count × (w < most_workers) }
+        ensures { OwnsAll table.now w self.now.members.now self.now.kept.count result }
+    {
+        remaining::all_owned(table, &self.members[..self.kept.count], w)
+    }
+
+    // Every member that is not fresh becomes w's.
+    pub fn take(&self, table: &mut [u32], w: usize)
+        requires { Places table.old self.now.members.now self.now.kept.count × (w < most_workers) }
+        ensures { Marked (λ (d : ℕ). w + 1) (λ (d : ℕ). Member self.now.members.now self.now.kept.count d × T (not (fresh table.old d))) table.old table.new }
+    {
+        marks::take_members(&self.members[..self.kept.count], table, w);
     }
 
     // Claim c has passed to claim b, which isn't complete: what b reaches joins the set, where c is in it.
-    pub fn extended(
-        self,
-        job: &[u8],
-        index: &ClaimIndex,
-        table: &[u32],
-        c: usize,
-        b: usize,
-        place: &mut [u16],
-        members: &mut [u16],
-    ) -> Kept
+    pub fn extend(&mut self, job: &Job, index: &ClaimIndex, table: &[u32], c: usize, b: usize)
         requires ready { Ready job.now index.now table.now × (c < claims job.now) × (b < claims job.now) }
-        requires lacking { Lacking (job_of job.now) table.now c b self place.old members.old }
-        ensures { Keeps (job_of job.now) table.now result place.new members.new }
+        requires lacking { Lacking (job_of job.now) table.now c b self.old.kept self.old.place.now self.old.members.now }
+        ensures { Keeps (job_of job.now) table.now self.new.kept self.new.place.now self.new.members.now }
     {
-        if place[c] == 0 {
-            return self;
+        if self.place[c] == 0 {
+            return;
         }
-        if place[b] != 0 {
-            return self;
+        if self.place[b] != 0 {
+            return;
         }
-        let before = self.count;
-        let count = gather::gather(job, index, table, b, place, members, before);
-        Kept {
-            from: self.from,
+        let before = self.kept.count;
+        let count = gather::gather(job, index, table, b, self.place, self.members, before);
+        self.kept = Kept {
+            from: self.kept.from,
             count,
-            worker: 0,
-            next: 0,
-        }
+            chosen: None,
+        };
     }
 }

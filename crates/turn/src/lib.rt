@@ -3,9 +3,8 @@
 // kept from turn to turn).
 #![tactic(auto)]
 
-ghost use Rattle.std.specs.Prelude.{◌≡◌, List, ℕ, ◌<◌};
+ghost use Rattle.std.specs.Prelude.{◌≡◌, ◌+◌, List, ℕ, ◌<◌};
 ghost use Rattle.job.specs.Format.{workers as workers_of, job_of};
-ghost use Rattle.job.specs.Accepted.{WellFormed};
 ghost use Rattle.table.specs.Layout.{awaited as awaited_of};
 ghost use Rattle.table.specs.Newest.{NewestKept};
 ghost use Rattle.table.specs.Questions.{Listed};
@@ -25,11 +24,11 @@ mod remaining;
 pub mod single;
 mod working;
 
-use job::{ClaimIndex, format};
+use job::{ClaimIndex, Job};
 use table::{QuestionIndex, stores, words};
 
 // The kind of a turn.
-#[derive(Clone, Copy)]
+#[derive(Clone, Copy, Debug, PartialEq, Eq)]
 pub enum Kind {
     Idle,
     Woke,
@@ -41,62 +40,66 @@ pub enum Kind {
     Answered,
 }
 
-// The set that a run keeps from turn to turn (kept_set.rt). `from`: the claim whose reached claims are kept + 1, or 0 where nothing is kept; `count`: how many they are. `next`: the claim that was to move on for
-// worker `worker` + 1, or 0 where none is known.
+// A claim that was to move on, and the worker for whom.
+#[derive(Clone, Copy)]
+pub struct Chosen {
+    pub worker: usize,
+    pub claim: usize,
+}
+
+// The set that a run keeps from turn to turn (kept_set.rt). `from`: the claim whose reached claims are kept, if any are; `count`: how many they are.
+// `chosen`: the claim of them that was to move on when that was last looked for, if it is known.
 #[derive(Clone, Copy)]
 pub struct Kept {
-    pub from: usize,
+    pub from: Option<usize>,
     pub count: usize,
-    pub worker: usize,
-    pub next: usize,
+    pub chosen: Option<Chosen>,
 }
 
-// What a turn leaves besides the table: its kind, and what is kept.
-#[derive(Clone, Copy)]
-pub struct Taken {
-    pub kind: Kind,
+// What is kept, with the room for its members and their places.
+#[derive(Drop)]
+pub struct HeldSet<'a> {
     pub kept: Kept,
+    pub place: &'a mut [u16],
+    pub members: &'a mut [u16],
 }
 
-// The turn of worker w, which awaits claim awaited - 1.
-fn wait_turn(job: &[u8], table: &mut [u32], w: usize, awaited: usize, kept: Kept) -> Taken
-    requires well_formed { WellFormed job.now × InRange (job_of job.now) table.old × (w < workers_of job.now) × NewestKept (job_of job.now) table.old }
-    requires awaited_nonzero { (0 < awaited) × (awaited ≡ awaited_of (job_of job.now) table.old w) }
-    ensures { (place members : List ℕ) → Keeps (job_of job.now) table.old kept place members → Done (job_of job.now) (turn (job_of job.now) table.old w) result table.new place members }
+// The turn of worker w, which awaits this claim.
+fn wait_turn(job: &Job, table: &mut [u32], w: usize, claim: usize) -> Kind
+    requires in_range { InRange (job_of job.now) table.old × (w < workers_of job.now) × NewestKept (job_of job.now) table.old }
+    requires awaits { claim + 1 ≡ awaited_of (job_of job.now) table.old w }
+    ensures { (kept : Kept) (place members : List ℕ) → Keeps (job_of job.now) table.old kept place members → Done (job_of job.now) (turn (job_of job.now) table.old w) result kept table.new place members }
 {
-    let claims = format::claim_count(job);
-    if words::is_complete(words::mark_at(table, awaited - 1)) {
+    let claims = job.claim_count();
+    if words::is_complete(words::mark_at(table, claim)) {
         stores::set_awaited(table, claims, w, 0);
-        return kept.after(Kind::Woke);
+        return Kind::Woke;
     }
-    kept.after(Kind::Idle)
+    Kind::Idle
 }
 
-// A turn of worker w, with the job's indexes of claims and questions, and what was kept from the turn before.
+// A turn of worker w, with the job's indexes of claims and questions, and the set that was kept from the turn before.
 pub fn take_turn(
-    job: &[u8],
+    job: &Job,
     index: &ClaimIndex,
     asked: &QuestionIndex,
     table: &mut [u32],
     w: usize,
-    kept: Kept,
-    place: &mut [u16],
-    members: &mut [u16],
-) -> Taken
+    set: &mut HeldSet<'_>,
+) -> Kind
     requires ready { Ready job.now index.now table.old }
     requires listed { Listed (job_of job.now) asked.now }
     requires w_bound { w < workers_of job.now }
-    requires keeps { Keeps (job_of job.now) table.old kept place.old members.old }
-    ensures { Done (job_of job.now) (turn (job_of job.now) table.old w) result table.new place.new members.new }
+    requires keeps { Keeps (job_of job.now) table.old set.old.kept set.old.place.now set.old.members.now }
+    ensures { Done (job_of job.now) (turn (job_of job.now) table.old w) result set.new.kept table.new set.new.place.now set.new.members.now }
 {
-    let claims = format::claim_count(job);
-    let awaited = words::awaited_at(table, claims, w);
-    if 0 < awaited {
-        return wait_turn(job, table, w, awaited, kept);
+    let claims = job.claim_count();
+    // a word of the table holds a claim + 1, or 0 for none
+    if let Some(claim) = words::awaited_at(table, claims, w).checked_sub(1) {
+        return wait_turn(job, table, w, claim);
     }
-    let n = words::newest_at(table, claims, w);
-    if n == 0 {
-        return asking::ask_turn(job, asked, table, w, kept);
-    }
-    working::work_turn(job, index, table, w, n - 1, kept, place, members)
+    let Some(n) = words::newest_at(table, claims, w).checked_sub(1) else {
+        return asking::ask_turn(job, asked, table, w, set);
+    };
+    working::work_turn(job, index, table, w, n, set)
 }

@@ -6,7 +6,6 @@ ghost use Rattle.table.specs.Newest.{newer};
 ghost use Rattle.turn.specs.Turn.{open_claim};
 ghost use Rattle.turn.specs.KeptSet.{Member, Places, Marked};
 
-use base::wide;
 use table::{newest, stores, words};
 
 // Claim c, fresh before, becomes open to w.
@@ -33,13 +32,13 @@ pub fn open_newest(table: &mut [u32], claims: usize, w: usize, c: usize)
     stores::set_newest(table, claims, w, found);
 }
 
-// Every one of `count` members that is not fresh becomes w's.
-pub fn take_members(members: &[u16], count: usize, table: &mut [u32], w: usize)
-    requires { Places table.old members.now count × (w < most_workers) }
-    ensures { Marked (λ (d : ℕ). w + 1) (λ (d : ℕ). Member members.now count d × T (not (fresh table.old d))) table.old table.new }
+// Every member that is not fresh becomes w's.
+pub fn take_members(members: &[u16], table: &mut [u32], w: usize)
+    requires { Places table.old members.now (length members.now) × (w < most_workers) }
+    ensures { Marked (λ (d : ℕ). w + 1) (λ (d : ℕ). Member members.now (length members.now) d × T (not (fresh table.old d))) table.old table.new }
 {
-    for i in 0..count {
-        let c = wide::half(members[i]);
+    for &member in members {
+        let c = usize::from(member);
         if words::mark_at(table, c) != 0 {
             stores::set_mark(table, c, w + 1);
         }
@@ -51,8 +50,8 @@ pub fn complete_members(members: &[u16], values: &[u8], table: &mut [u32])
     requires { Places table.old members.now (length members.now) × (length values.now ≡ length members.now) }
     ensures { (f : ℕ → ℕ) → ((i : ℕ) → i < length members.now → f (get_or members.now i 0) ≡ mark_of_value (get_or values.now i 0)) → Marked f (Member members.now (length members.now)) table.old table.new }
 {
-    for i in 0..members.len() {
-        let value = wide::byte(values[i]);
-        stores::set_mark(table, wide::half(members[i]), words::mark_of_value(value));
+    for (&member, &value) in members.iter().zip(values) {
+        let mark = words::mark_of_value(usize::from(value));
+        stores::set_mark(table, usize::from(member), mark);
     }
 }

@@ -5,10 +5,9 @@ ghost use Rattle.job.specs.Job.{most_claims, most_workers};
 ghost use Rattle.table.specs.Layout.{workers_from};
 ghost use Rattle.table.specs.Newest.{NewestOf};
 ghost use Rattle.turn.specs.Ready.{passed_in};
-ghost use Rattle.turn.specs.KeptSet.{Member, free, FoundBy, Places, OwnsAll};
+ghost use Rattle.turn.specs.KeptSet.{Member, free, word_of, FoundBy, Places, OwnsAll};
 
-use crate::Kept;
-use base::wide;
+use crate::HeldSet;
 use job::{ClaimIndex, Cursor};
 use table::newest::newer;
 use table::words;
@@ -26,51 +25,42 @@ fn left_to_pass(index: &ClaimIndex, table: &[u32], w: usize, c: usize) -> bool
     requires { (c < most_claims) × (workers_from (c + 1) ≤ length table.now) × (w < most_workers) }
     ensures { result ≡ free index.now table.now w c }
 {
-    if words::mark_at(table, c) != w + 1 {
-        return false;
-    }
-    !passed_all(index, table, c)
+    words::mark_at(table, c) == w + 1 && !passed_all(index, table, c)
 }
 
-// The newest of `count` members that is w's and has a literal left + 1, or 0 where there is none.
-fn newest_left(index: &ClaimIndex, table: &[u32], members: &[u16], count: usize, w: usize) -> usize
-    requires { Places table.now members.now count × (w < most_workers) }
-    ensures { NewestOf table.now (λ (d : ℕ). Member members.now count d × T (free index.now table.now w d)) result }
+// The newest of the members that is w's and has a literal left.
+fn newest_left(index: &ClaimIndex, table: &[u32], members: &[u16], w: usize) -> Option<usize>
+    requires { Places table.now members.now (length members.now) × (w < most_workers) }
+    ensures { NewestOf table.now (λ (d : ℕ). Member members.now (length members.now) d × T (free index.now table.now w d)) (word_of result) }
 {
+    // as a table's words have it: the newest so far + 1, or 0
     let mut best: usize = 0;
-    for i in 0..count {
-        let c = wide::half(members[i]);
+    for &member in members {
+        let c = usize::from(member);
         if left_to_pass(index, table, w, c) {
             best = newer(table, c, best);
         }
     }
-    best
+    best.checked_sub(1)
 }
 
 // The same, where the claim that was found last is it still: it is while it is w's and has a literal left.
-pub fn chosen(index: &ClaimIndex, table: &[u32], members: &[u16], kept: Kept, w: usize) -> usize
-    requires { Places table.now members.now kept.count × (w < most_workers) × FoundBy index.now table.now kept members.now }
-    ensures { NewestOf table.now (λ (d : ℕ). Member members.now kept.count d × T (free index.now table.now w d)) result }
+pub fn chosen(index: &ClaimIndex, table: &[u32], set: &HeldSet<'_>, w: usize) -> Option<usize>
+    requires { Places table.now set.now.members.now set.now.kept.count × (w < most_workers) × FoundBy index.now table.now set.now.kept set.now.members.now }
+    ensures { NewestOf table.now (λ (d : ℕ). Member set.now.members.now set.now.kept.count d × T (free index.now table.now w d)) (word_of result) }
 {
-    let next = kept.next;
-    if 0 < next && kept.worker == w {
-        if left_to_pass(index, table, w, next - 1) {
-            return next;
+    if let Some(last) = set.kept.chosen {
+        if last.worker == w && left_to_pass(index, table, w, last.claim) {
+            return Some(last.claim);
         }
     }
-    let count = kept.count;
-    newest_left(index, table, members, count, w)
+    newest_left(index, table, &set.members[..set.kept.count], w)
 }
 
-// Whether `count` members are all w's.
-pub fn all_owned(table: &[u32], members: &[u16], count: usize, w: usize) -> bool
-    requires { Places table.now members.now count × (w < most_workers) }
-    ensures { OwnsAll table.now w members.now count result }
+// Whether the members are all w's.
+pub fn all_owned(table: &[u32], members: &[u16], w: usize) -> bool
+    requires { Places table.now members.now (length members.now) × (w < most_workers) }
+    ensures { OwnsAll table.now w members.now (length members.now) result }
 {
-    for i in 0..count {
-        if words::mark_at(table, wide::half(members[i])) != w + 1 {
-            return false;
-        }
-    }
-    true
+    members.iter().all(|&member| words::mark_at(table, usize::from(member)) == w + 1)
 }

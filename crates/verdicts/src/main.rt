@@ -5,7 +5,7 @@
 #![tactic(auto)]
 
 use console::{faults, input};
-use job::Check;
+use job::Refusal;
 use listing::input::{MOST_INPUT, TOO_LONG};
 use listing::list::MOST_TEXT;
 use std::io::{Stderr, Stdout};
@@ -19,28 +19,28 @@ fn say_number(err: Stderr, number: usize) {
     let _ = err.print(number);
 }
 
-// What check `number` found wrong, up to the place. 16 can't come, since there is room.
-fn say_fault(err: Stderr, number: u32, place: usize) {
-    if number == 11 {
+// What the check found wrong, up to the place. 16 can't come, since there is room.
+fn say_fault(err: Stderr, refusal: Refusal) {
+    if refusal.number == 11 {
         say(err, b"the schedule names no worker of the job; its byte ");
         return;
     }
-    if MOST_INPUT < place {
+    if MOST_INPUT < refusal.place {
         say(err, b"the input has over 65,536 bytes; bytes read: ");
         return;
     }
     let mut words = [0u8; faults::MOST_FAULT];
-    let n = faults::put_fault(&mut words, number);
+    let n = faults::put_fault(&mut words, refusal.number);
     say(err, &words[..n]);
 }
 
 // One line on standard error.
-fn say_refusal(err: Stderr, number: u32, place: usize) {
+fn say_refusal(err: Stderr, refusal: Refusal) {
     say(err, b"verdicts: refused by check ");
-    say_number(err, number as usize);
+    say_number(err, refusal.number as usize);
     say(err, b": ");
-    say_fault(err, number, place);
-    say_number(err, place);
+    say_fault(err, refusal);
+    say_number(err, refusal.place);
     say(err, b"\n");
 }
 
@@ -56,11 +56,9 @@ fn write_text(out: Stdout, err: Stderr, text: &[u8]) {
 
 fn list(out: Stdout, err: Stderr, input: &[u8], text: &mut [u8]) {
     let listed = listing::list::list(input, text);
-    let length = listed.length;
-    let check = listed.check;
-    write_text(out, err, &text[..length]);
-    if let Check::Refused { number, place } = check {
-        say_refusal(err, number, place);
+    write_text(out, err, &text[..listed.length]);
+    if let Err(refusal) = listed.check {
+        say_refusal(err, refusal);
     }
 }
 
@@ -70,14 +68,12 @@ fn main(rt: HostRuntime) {
     let mut stdin = rt.stdin();
     let mut input = [0u8; TOO_LONG];
     let mut text = [0u8; MOST_TEXT];
-    let read = input::read_input(&mut stdin, &mut input);
-    let length = read.length;
-    if !read.sound {
+    let Ok(length) = input::read_input(&mut stdin, &mut input) else {
         say(
             err,
             b"verdicts: standard input can't be read; give a job, as in `verdicts < my.job`\n",
         );
         return;
-    }
+    };
     list(rt.stdout(), err, &input[..length], &mut text);
 }

@@ -3,3 +3,4 @@ pub mod Wrote
 pub mod Digits
 pub mod Onward
 pub mod Parted
+pub mod Writing

@@ -4,3 +4,6 @@
 
 pub mod number;
 pub mod put;
+mod writer;
+
+pub use writer::Writer;

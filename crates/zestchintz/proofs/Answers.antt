@@ -14,8 +14,10 @@ use Rattle.job.specs.Checks.{check_length, check_total, check_counts, check_offs
 use Rattle.job.specs.Accepted.{Sized, WellFormed}
 use Rattle.job.proofs.Rows.{both}
 use Rattle.job.proofs.Accepted.{header-sized, well_formed}
-use Rattle.job.specs.declared.Check.{Check}
-use Rattle.job.specs.declared.Check.TheVariants.{Accepted, Refused}
+use Rattle.job.specs.Check.{Check, Accepted, Refused}
+use Rattle.job.specs.declared.Refusal.{Refusal}
+use Rattle.std.specs.Prelude.{Err}
+use Rattle.codes.specs.Numbers.{in_halves}
 use Rattle.model.specs.Output.{check_plain}
 use Rattle.zestchintz.specs.Code.{refusal_code, code_of, read_code, Told, Answered, Coded}
 
@@ -30,14 +32,13 @@ tells-accepted number place e = let z : ◌≡◌ {A = ℕ} 0 1 = cc in absurd (
 tells_refused : (n p : ℕ) → Told n p → Tells (Refused n p)
 unfolding Tells
 tells_refused n p t number place e =
-    let a : n ≡ number = cc in
-    let b : p ≡ place = cc in
-    rw (← a, ← b) t
+    let q : ◌≡◌ {A = Refusal} (record { number = n; place = p }) (record { number = number; place = place }) = cc in
+    subst (λ (r : Refusal). Told r.number r.place) q t
 
 tells_then : (x y : Check) → Tells x → (Accepted ≡ x → Tells y) → Tells (x ⨾ y)
 unfolding ◌⨾◌
 tells_then Accepted y a b = b refl
-tells_then (Refused n p) y a b = a
+tells_then (Err refusal) y a b = a
 
 tells_row : (b : Bool) (n p : ℕ) → Told n p → Tells (row b n p)
 unfolding row
@@ -53,6 +54,13 @@ tells-scan bad (suc m) n place h =
 -- a number of the table from 2 on, with a place that is no length
 placed : (n p : ℕ) → 2 ≤ n → n ≤ 13 → p < 4294967296 → Told n p
 placed n p a b h = record { length-fits = λ e. absurd (omega arith); number-least = omega arith; number-most = b; place-fits = λ e. h }
+
+-- such a refusal has its code in two halves
+pub told-code : (r : Refusal) → Told r.number r.place → in_halves r ≡ refusal_code r.number r.place
+unfolding in_halves refusal_code
+told-code r t =
+    by_cases (ℕ_discrete r.number 1) (λ e. rw (eq-eqb r.number 1 e) (omega (arith, t.length-fits e)))
+    (λ n. rw (ne_eqb r.number 1 n) (omega (arith, t.place-fits n, t.number-most)))
 
 -- a code read back
 read-claims : (a : ℕ) → a < 4294967296 → read_code a ≡ Accepted
@@ -142,7 +150,7 @@ coded {s} {check} a e = record { code = e; back = ap read_code e ∙ reads check
   where
     reads : (x : Check) → Answered s x → read_code (code_of (claims s) x) ≡ x
     reads Accepted a = read-claims (claims s) (a.few refl)
-    reads (Refused number place) a = read_refusal number place (a.told number place refl)
+    reads (Err refusal) a = read_refusal refusal.number refusal.place (a.told refusal.number refusal.place refl)
 
 pub coded_as : {s : List ℕ} {x y : Check} {r : ℕ} → x ≡ y → Coded s x r → Coded s y r
 coded_as {s} {x} {y} {r} e k = subst (λ (z : Check). Coded s z r) e k

@@ -5,17 +5,16 @@
 --   Told number place           the refusals that a code can carry
 --   Answered s check            the answers on a job s that a code can carry
 --   Coded s check r             r is the code of an answer on job s, and the answer is read back from it
-use Rattle.std.specs.Prelude.{ℕ, ◌+◌, ◌*◌, ◌/◌, ◌%◌, ◌-◌, ◌<◌, ◌≤◌, ◌≡◌, cond, List, eqb, ltb, length}
+use Rattle.std.specs.Prelude.{ℕ, ◌+◌, ◌*◌, ◌/◌, ◌%◌, ◌-◌, ◌<◌, ◌≤◌, ◌≡◌, cond, List, eqb, ltb, length, Err}
 use Rattle.job.specs.Format.{claims}
-use Rattle.job.specs.declared.Check.{Check}
-use Rattle.job.specs.declared.Check.TheVariants.{Accepted, Refused}
+use Rattle.job.specs.Check.{Check, Accepted, Refused}
 
 unfoldable pub refusal_code : ℕ → ℕ → ℕ
 refusal_code number place = cond (eqb number 1) (9223372036854775808 + place) (number * 4294967296 + place)
 
 unfoldable pub code_of : ℕ → Check → ℕ
 code_of a Accepted = a
-code_of a (Refused number place) = refusal_code number place
+code_of a (Err refusal) = refusal_code refusal.number refusal.place
 
 -- under 2^32: accepted; from 2^63 on: number 1, and the rest is the place; between: number and place, 32 bits each
 unfoldable pub read_code : ℕ → Check

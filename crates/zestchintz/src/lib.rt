@@ -6,20 +6,9 @@ ghost use Rattle.std.specs.Prelude.{◌≡◌, length};
 ghost use Rattle.job.specs.Checks.{check_job};
 ghost use Rattle.job.specs.Reading.{Reading};
 ghost use Rattle.model.specs.Output.{check_plain, Evaluated};
-ghost use Rattle.zestchintz.specs.Code.{refusal_code, Told, Answered, Coded};
+ghost use Rattle.zestchintz.specs.Code.{Answered, Coded};
 
 use job::Check;
-
-// A refusal in one number.
-fn refusal_code(number: u32, place: usize) -> u64
-    requires { Told number place }
-    ensures { result ≡ refusal_code number place }
-{
-    if number == 1 {
-        return 9223372036854775808 + place as u64;
-    }
-    (number as u64) * 4294967296 + place as u64
-}
 
 // The answer of a call in one number: the claims, or the refusal.
 fn code_of(job: &[u8], check: Check) -> u64
@@ -27,8 +16,8 @@ fn code_of(job: &[u8], check: Check) -> u64
     ensures { Coded job.now check result }
 {
     match check {
-        Check::Accepted => job::format::claim_count(job) as u64,
-        Check::Refused { number, place } => refusal_code(number, place),
+        Ok(()) => job::format::claim_count(job) as u64,
+        Err(refusal) => codes::in_halves(refusal),
     }
 }
 

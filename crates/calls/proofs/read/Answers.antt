@@ -1,36 +1,26 @@
-use mathlib.Core.Path.{refl, sym, ◌∙◌}
+use mathlib.Core.Path.{◌∙◌, ap}
+use Prim.Native.Nat.{ℕ}
+use mathlib.Core.List.{List}
 use Rattle.job.proofs.Accepted.{well_formed}
-use Rattle.job.specs.Rows.{◌⨾◌}
-use Rattle.job.specs.Checks.{check_job}
 use Rattle.job.specs.Format.{job_of}
-use Rattle.job.specs.declared.Check.{Check}
-use Rattle.calls.specs.declared.ReadAnswer.{ReadAnswer}
-use Rattle.calls.specs.Calls.{check_claim_read, read_check, read_answer}
+use Rattle.job.specs.Rows.{◌⨾◌}
 use Rattle.table.specs.Ranges.{check_table}
-use Rattle.calls.proofs.Answering.{goes_on, stops_at}
+use Rattle.calls.specs.Calls.{read_check, read_answer, check_claim_read}
+use Rattle.calls.proofs.Answering.{answered_on, answered_at}
 use Rattle.calls.proofs.read.Goals as goal
 
-pub index_claims-index-requires : goal.index_claims-index-requires
-index_claims-index-requires c = well_formed _ (sym c.in-Accepted.is ∙ c.check_job.ensures.value)
+pub returns-in_err-check_job : goal.returns-in_err-check_job
+unfolding read_check
+returns-in_err-check_job c = answered_at _ _ _ c.in_err-check_job.ensures.value c.from_residual.ensures.1
 
-pub count_questions-counts-requires : goal.count_questions-counts-requires
-count_questions-counts-requires c = well_formed _ (sym c.in-Accepted.is ∙ c.check_job.ensures.value)
+pub of_accepted-accepted-requires : goal.of_accepted-accepted-requires
+of_accepted-accepted-requires c = well_formed _ c.in_ok-check_job.ensures.value
 
 pub read_accepted-requires : goal.read_accepted-requires
-read_accepted-requires c = (well_formed _ (sym c.in-Accepted.is ∙ c.check_job.ensures.value), c.index_claims-index.ensures, c.count_questions-counts.ensures)
+read_accepted-requires c = (c.index_claims-index.ensures, c.count_questions-counts.ensures)
 
-pub returns-in-Refused : goal.returns-in-Refused
-unfolding read_check read_answer
-returns-in-Refused c = let s = c.args.job.now in
-    let t = c.args.table.now in
-    let k = c.args.claim in
-    let F : Check → ReadAnswer = λ x. read_answer x t k in
-    stops_at F (check_job s) (check_table (job_of s) t ⨾ check_claim_read s k) c.in-Refused.is c.check_job.ensures.value refl
-
-pub returns-in-Accepted : goal.returns-in-Accepted
+pub returns : goal.returns
 unfolding read_check
-returns-in-Accepted c = let s = c.args.job.now in
-    let t = c.args.table.now in
+returns c = let t = c.args.table.now in
     let k = c.args.claim in
-    let F : Check → ReadAnswer = λ x. read_answer x t k in
-    goes_on F (check_job s) (check_table (job_of s) t ⨾ check_claim_read s k) c.in-Accepted.is c.check_job.ensures.value c.read_accepted.ensures
+    answered_on _ _ _ c.in_ok-check_job.ensures.value (c.read_accepted.ensures ∙ ap (λ (s : List ℕ). read_answer (check_table (job_of s) t ⨾ check_claim_read s k) t k) c.of_accepted-accepted.ensures)

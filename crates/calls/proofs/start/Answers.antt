@@ -1,21 +1,30 @@
-use mathlib.Core.Path.{sym, ◌∙◌, ap}
-use Rattle.job.specs.declared.Check.{Check}
+use mathlib.Core.Path.{◌∙◌, ap}
+use Prim.Native.Nat.{ℕ}
+use mathlib.Core.List.{List}
+use Rattle.job.specs.Check.{Check}
+use Rattle.job.specs.Format.{job_of}
+use Rattle.table.specs.Start.{start_words}
 use Rattle.calls.specs.Calls.{start_table}
 use Rattle.calls.proofs.Answering.{start-good}
 use Rattle.calls.proofs.Demands.{promise}
 use Rattle.calls.proofs.start.Goals as goal
 
-pub returns-in_default : goal.returns-in_default
+pub returns-in_err-check_start-clause-table_after : goal.returns-in_err-check_start-clause-table_after
 unfolding start_table
-returns-in_default c = let s = c.args.job.now in
-    let t = c.args.table.now in
-    let q = c.check_start-check.ensures in record { value = q; table_after = sym (ap (λ (x : Check). start_table x s t) (sym q ∙ c.in_default.is)); promise = promise s }
+returns-in_err-check_start-clause-table_after c = ap (λ (x : Check). start_table x c.args.job.now c.args.table.now) c.in_err-check_start.ensures
+
+pub returns-in_err-check_start-clause-promise : goal.returns-in_err-check_start-clause-promise
+returns-in_err-check_start-clause-promise c = promise _
+
+pub of_accepted-requires : goal.of_accepted-requires
+of_accepted-requires c = (start-good _ _ c.in_ok-check_start.ensures).0
 
 pub write_start-requires : goal.write_start-requires
-write_start-requires c = let both = start-good _ _ (sym c.in-Accepted.is ∙ c.check_start-check.ensures) in record { well_formed = both.0; job_in_bounds = both.1 }
+write_start-requires c = rw c.of_accepted.ensures (record { room = (start-good _ _ c.in_ok-check_start.ensures).1 })
 
-pub returns : goal.returns
+pub returns-clause-table_after : goal.returns-clause-table_after
 unfolding start_table
-returns c = let s = c.args.job.now in
-    let t = c.args.table.now in
-    let q = sym c.in-Accepted.is ∙ c.check_start-check.ensures in record { value = q; table_after = c.write_start.ensures ∙ ap (λ (x : Check). start_table x s t) q; promise = promise s }
+returns-clause-table_after c = c.write_start.ensures ∙ ap (λ (s : List ℕ). start_words (job_of s) c.args.table.now) c.of_accepted.ensures ∙ ap (λ (x : Check). start_table x c.args.job.now c.args.table.now) c.in_ok-check_start.ensures
+
+pub returns-clause-promise : goal.returns-clause-promise
+returns-clause-promise c = promise _

@@ -1,43 +1,38 @@
+use mathlib.Core.Path.{refl, sym, ◌∙◌, ap, subst}
 use Prim.Native.Nat.{ℕ}
 use mathlib.Core.List.{List}
-use mathlib.Core.Path.{refl, sym, ◌∙◌}
 use Rattle.job.proofs.Accepted.{well_formed}
-use Rattle.job.specs.Rows.{◌⨾◌}
-use Rattle.job.specs.Checks.{check_job}
+use Rattle.job.specs.Check.{Check}
+use Rattle.job.specs.Claims.{Index}
 use Rattle.job.specs.Format.{job_of}
-use Rattle.job.specs.declared.Check.{Check}
-use Rattle.calls.specs.declared.TurnAnswer.{TurnAnswer}
-use Rattle.calls.specs.Calls.{check_turn_worker, turn_check, turn_answer, turn_table}
+use Rattle.job.specs.Rows.{◌⨾◌}
 use Rattle.table.specs.Ranges.{check_table}
-use Rattle.calls.proofs.Answering.{goes_on, stops_at}
+use Rattle.calls.specs.Calls.{turn_check, turn_table, turn_answer, check_turn_worker}
+use Rattle.calls.proofs.Answering.{goes_on, stops_at, answered_on, answered_at}
 use Rattle.calls.proofs.turn.Goals as goal
 
-pub index_claims-index-requires : goal.index_claims-index-requires
-index_claims-index-requires c = well_formed _ (sym c.in-Accepted.is ∙ c.check_job.ensures.value)
+pub returns-in_err-check_job : goal.returns-in_err-check_job
+unfolding turn_check turn_table
+returns-in_err-check_job c = record {
+  value = answered_at _ _ _ c.in_err-check_job.ensures.value c.from_residual.ensures.1;
+  table_after = stops_at (λ (x : Check). turn_table x c.args.job.now c.args.table.now c.args.worker) _ _ c.in_err-check_job.ensures.value refl;
+}
 
-pub count_questions-counts-requires : goal.count_questions-counts-requires
-count_questions-counts-requires c = well_formed _ (sym c.in-Accepted.is ∙ c.check_job.ensures.value)
+pub of_accepted-accepted-requires : goal.of_accepted-accepted-requires
+of_accepted-accepted-requires c = well_formed _ c.in_ok-check_job.ensures.value
+
+pub fill_index-requires-clause-accepted : goal.fill_index-requires-clause-accepted
+fill_index-requires-clause-accepted c = well_formed _ c.in_ok-check_job.ensures.value
 
 pub turn_accepted-requires : goal.turn_accepted-requires
-turn_accepted-requires c = (well_formed _ (sym c.in-Accepted.is ∙ c.check_job.ensures.value), c.index_claims-index.ensures, c.count_questions-counts.ensures)
+turn_accepted-requires c = (subst (λ (s : List ℕ). Index s c.fill_index.new.index) (sym c.of_accepted-accepted.ensures) c.fill_index.ensures, c.count_questions-counts.ensures)
 
-pub returns-in-Refused : goal.returns-in-Refused
-unfolding turn_check turn_answer turn_table
-returns-in-Refused c = let s = c.args.job.now in
-    let t = c.args.table.now in
-    let w = c.args.worker in
-    let F : Check → TurnAnswer = λ x. turn_answer x s t w in
-    let G : Check → List ℕ = λ x. turn_table x s t w in
-    let a = c.in-Refused.is in
-    let b = c.check_job.ensures.value in record { value = stops_at F (check_job s) (check_table (job_of s) t ⨾ check_turn_worker s w) a b refl; table_after = stops_at G (check_job s) (check_table (job_of s) t ⨾ check_turn_worker s w) a b refl }
-
-pub returns-in-Accepted : goal.returns-in-Accepted
+pub returns : goal.returns
 unfolding turn_check
-returns-in-Accepted c = let s = c.args.job.now in
+returns c = let m = c.turn_accepted.ensures in
     let t = c.args.table.now in
     let w = c.args.worker in
-    let F : Check → TurnAnswer = λ x. turn_answer x s t w in
-    let G : Check → List ℕ = λ x. turn_table x s t w in
-    let a = c.in-Accepted.is in
-    let b = c.check_job.ensures.value in
-    let m = c.turn_accepted.ensures in record { value = goes_on F (check_job s) (check_table (job_of s) t ⨾ check_turn_worker s w) a b m.value; table_after = goes_on G (check_job s) (check_table (job_of s) t ⨾ check_turn_worker s w) a b m.table_after }
+    record {
+      value = answered_on _ _ _ c.in_ok-check_job.ensures.value (m.value ∙ ap (λ (s : List ℕ). turn_answer (check_table (job_of s) t ⨾ check_turn_worker s w) s t w) c.of_accepted-accepted.ensures);
+      table_after = goes_on (λ (x : Check). turn_table x c.args.job.now c.args.table.now c.args.worker) _ _ c.in_ok-check_job.ensures.value (m.table_after ∙ ap (λ (s : List ℕ). turn_table (check_table (job_of s) t ⨾ check_turn_worker s w) s t w) c.of_accepted-accepted.ensures);
+    }

@@ -1,13 +1,15 @@
--- : its three ways out.
-use Rattle.rulesets.proofs.Answering.{answer_less, answer_more, answer-counted}
+-- Its two ways out.
+use Prim.Native.Nat.{◌≤◌}
+use native.Mathlib.Omega.{arith}
+use Rattle.std.proofs.lemmas.Grind.{common_steps}
+use Rattle.rulesets.proofs.Answering.{answer_out, answer-counted}
 use Rattle.rulesets.proofs.Lawful.{laws}
 use Rattle.counting.proofs.census.Goals as goal
 
-pub returns-then-size-lt1 : goal.returns-then-size-lt1
-returns-then-size-lt1 c = let e = answer_less _ c.if-size-lt1.true in record { value = e; laws = laws _ e }
-
-pub returns-then-size-gt-MOST_SIZE : goal.returns-then-size-gt-MOST_SIZE
-returns-then-size-gt-MOST_SIZE c = let e = answer_more _ c.if-size-lt1.false c.if-size-gt-MOST_SIZE.true in record { value = e; laws = laws _ e }
+pub returns-then-not-contains : goal.returns-then-not-contains
+returns-then-not-contains c = let e = answer_out c.args.size (λ l h. grind (arith, common_steps)) in record { value = e; laws = laws _ e }
 
 pub returns : goal.returns
-returns c = let e = answer-counted _ c.if-size-lt1.false c.if-size-gt-MOST_SIZE.false c.count_sets.ensures in record { value = e; laws = laws _ e }
+returns c = let l : 1 ≤ c.args.size = grind (arith, common_steps) in
+    let h : c.args.size ≤ 3 = grind (arith, common_steps) in
+    let e = answer-counted _ l h c.count_sets.ensures in record { value = e; laws = laws _ e }

@@ -1,42 +1,57 @@
--- : its four ways out.
-use mathlib.Core.Path.{◌≡◌, refl, sym, ◌∙◌}
-use Rattle.job.specs.Checks.{check_job}
-use Rattle.job.specs.Accepted.{WellFormed}
-use Rattle.job.specs.declared.Check.TheVariants.{Accepted}
-use Rattle.job.proofs.Accepted.{well_formed, header-room}
-use Rattle.groups.proofs.Admitting.{claims-wrong, workers-wrong, admit_first, admit-lists, admit-questions}
+-- Row by row.
+use Prim.Native.Nat.{ℕ}
+use mathlib.Core.Path.{◌≡◌, refl, ◌∙◌, ap}
+use mathlib.Core.List.{List}
+use Rattle.job.proofs.Accepted.{well_formed}
+use Rattle.job.specs.Format.{claims, workers}
+use Rattle.job.proofs.Rows.{halt, onward, exit}
+use Rattle.groups.specs.Groups.{check_lists, check_partners, admit_check}
 use Rattle.groups.proofs.Apart.{admission}
+use Rattle.groups.proofs.Admitting.{list-row, list-long, admit-questions}
 use Rattle.groups.proofs.admit.Goals as goal
-use Rattle.groups.proofs.admit.Goals.{In-Accepted}
+use Rattle.groups.proofs.admit.Goals.{After-claim_count, After-worker_count}
 
--- the job is accepted
-accepted : (c : In-Accepted) → Accepted ≡ check_job c.args.job.now
-accepted c = sym c.in-Accepted.is ∙ c.check_job-check.ensures.value
+claims_are : (c : After-claim_count) → c.claim_count.result ≡ claims c.args.job.now
+claims_are c = c.claim_count.ensures.value ∙ ap claims c.of_accepted-accepted.ensures
 
-good : (c : In-Accepted) → WellFormed c.args.job.now
-good c = well_formed _ (accepted c)
+workers_are : (c : After-worker_count) → c.worker_count.result ≡ workers c.args.job.now
+workers_are c = c.worker_count.ensures.value ∙ ap workers c.of_accepted-accepted.ensures
 
-pub returns-in_default : goal.returns-in_default
-returns-in_default c = record { value = admit_first _ _ _ c.in_default.is c.check_job-check.ensures.value; admission = admission _ _ _ }
+pub returns-in_err-check_job : goal.returns-in_err-check_job
+unfolding admit_check
+returns-in_err-check_job c = record { value = exit _ _ c.from_residual.ensures.1 c.in_err-check_job.ensures.value; admission = admission _ _ _ }
 
-pub claim_count-requires : goal.claim_count-requires
-claim_count-requires c = header-room _ (good (goal.at.claim_count-requires c).In-Accepted)
+pub returns-in_err-check_length : goal.returns-in_err-check_length
+unfolding admit_check check_lists
+returns-in_err-check_length c =
+    let row = list-row c.args.groups.now _ _ c.in_err-check_length.ensures (claims_are (goal.at.returns-in_err-check_length c).After-claim_count) in
+    record {
+      value = onward _ _ c.in_ok-check_job.ensures.value (exit _ _ c.from_residual-in_err-check_length.ensures.1 (halt _ _ refl row));
+      admission = admission _ _ _;
+    }
 
-pub returns-then-groups-claim_count : goal.returns-then-groups-claim_count
-returns-then-groups-claim_count c = let n = c.claim_count.ensures.value in record { value = admit-lists _ _ _ (accepted (goal.at.returns-then-groups-claim_count c).In-Accepted) refl (claims-wrong _ _ _ (λ e. c.if-groups-claim_count.true (e ∙ sym n))); admission = admission _ _ _ }
+pub returns-in_err-check_length-2 : goal.returns-in_err-check_length-2
+unfolding admit_check check_lists
+returns-in_err-check_length-2 c =
+    let first = list-row c.args.groups.now _ _ c.in_ok-check_length.ensures (claims_are (goal.at.returns-in_err-check_length-2 c).After-claim_count) in
+    let row = list-row c.args.workers.now _ _ c.in_err-check_length-2.ensures (workers_are (goal.at.returns-in_err-check_length-2 c).After-worker_count) in
+    record {
+      value = onward _ _ c.in_ok-check_job.ensures.value (exit _ _ c.from_residual-in_err-check_length-2.ensures.1 (onward _ _ first (halt _ _ refl row)));
+      admission = admission _ _ _;
+    }
 
-pub worker_count-requires : goal.worker_count-requires
-worker_count-requires c = header-room _ (good (goal.at.worker_count-requires c).In-Accepted)
-
-pub returns-then-workers-worker_count : goal.returns-then-workers-worker_count
-returns-then-workers-worker_count c = let n = c.worker_count.ensures.value in
-    let a = c.claim_count.ensures.value in record { value = admit-lists _ _ _ (accepted (goal.at.returns-then-workers-worker_count c).In-Accepted) refl (workers-wrong _ _ _ (c.if-groups-claim_count.false ∙ a) (λ e. c.if-workers-worker_count.true (e ∙ sym n))); admission = admission _ _ _ }
-
-pub index_claims-index-requires : goal.index_claims-index-requires
-index_claims-index-requires c = good (goal.at.index_claims-index-requires c).In-Accepted
+pub of_accepted-accepted-requires : goal.of_accepted-accepted-requires
+of_accepted-accepted-requires c = well_formed _ c.in_ok-check_job.ensures.value
 
 pub check_partners-requires : goal.check_partners-requires
-check_partners-requires c = record { well_formed = (good (goal.at.check_partners-requires c).In-Accepted, c.index_claims-index.ensures); groups_len = (c.if-groups-claim_count.false ∙ c.claim_count.ensures.value, c.if-workers-worker_count.false ∙ c.worker_count.ensures.value) }
+check_partners-requires c = record { indexed = c.index_claims-index.ensures; lengths = (list-long _ _ (list-row _ _ _ c.in_ok-check_length.ensures c.claim_count.ensures.value), list-long _ _ (list-row _ _ _ c.in_ok-check_length-2.ensures c.worker_count.ensures.value)) }
 
 pub returns : goal.returns
-returns c = record { value = admit-questions _ _ _ (accepted (goal.at.returns c).In-Accepted) (c.if-groups-claim_count.false ∙ c.claim_count.ensures.value) (c.if-workers-worker_count.false ∙ c.worker_count.ensures.value) c.check_partners.ensures; admission = admission _ _ _ }
+returns c =
+    let a = list-long c.args.groups.now _ (list-row _ _ _ c.in_ok-check_length.ensures (claims_are (goal.at.returns c).After-claim_count)) in
+    let b = list-long c.args.workers.now _ (list-row _ _ _ c.in_ok-check_length-2.ensures (workers_are (goal.at.returns c).After-worker_count)) in
+    record {
+      value = admit-questions _ _ _ c.in_ok-check_job.ensures.value a b
+          (c.check_partners.ensures ∙ ap (λ (s : List ℕ). check_partners s c.args.groups.now c.args.workers.now) c.of_accepted-accepted.ensures);
+      admission = admission _ _ _;
+    }

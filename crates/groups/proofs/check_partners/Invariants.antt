@@ -1,5 +1,5 @@
 -- The loop's invariant: no question before q leads abroad, and the scopes are right.
-use Prim.Native.Nat.{ℕ, ◌-◌, ◌≤◌, ◌<◌}
+use Prim.Native.Nat.{ℕ, ◌≤◌, ◌<◌}
 use mathlib.Core.Bool.{false}
 use mathlib.Core.Path.{◌≡◌}
 use lib.ListN.{length}
@@ -15,6 +15,3 @@ invariant-loop-q l = (l.q ≤ questions_of l.job)
     × (length l.queue ≡ most_claims)
     × Known (job_of l.job) l.groups l.scopes
     × ((k : ℕ) → k < l.q → bad_question l.job l.groups l.workers k ≡ false)
-
-abbrev pub decreases-loop-q : goal.decreases-loop-q
-decreases-loop-q l = questions_of l.job - l.q

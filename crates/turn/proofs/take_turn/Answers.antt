@@ -1,52 +1,51 @@
+use Prim.Native.Nat.{◌+◌}
+use mathlib.Core.Path.{◌≡◌, ◌∙◌}
 use native.Mathlib.Omega.{arith}
 use Rattle.turn.proofs.WholeTurn.{asks, works, newest-sought}
 use Rattle.turn.proofs.Following.{room, awaited-read, newest-read}
 use Rattle.turn.proofs.KeptTurns.{done_through}
 use Rattle.turn.proofs.ThirdWords.{kept_low}
 use Rattle.turn.proofs.take_turn.Goals as goal
+use Rattle.turn.proofs.take_turn.Goals.{In-Some-checked_sub}
 
-pub awaited_at-awaited-requires : goal.awaited_at-awaited-requires
-awaited_at-awaited-requires c = let a = c.args in
-    let p = c.requires in
-    omega (arith, room a.job.now a.table.now p.ready.table, p.w_bound)
+pub awaited_at-requires : goal.awaited_at-requires
+awaited_at-requires c = omega (arith, room c.args.job.now c.args.table.now c.requires.ready.table, c.requires.w_bound)
 
-pub wait_turn-requires : goal.wait_turn-requires
-wait_turn-requires c = let a = c.args in
-    let p = c.requires in record { well_formed = (p.ready.job, p.ready.table, p.w_bound, p.ready.newests); awaited_nonzero = (c.if-awaited-gt0.true, awaited-read a.job.now a.table.now a.w c.claim_count-claims.ensures.value c.awaited_at-awaited.ensures.value) }
+pub wait_turn-requires-clause-awaits : goal.wait_turn-requires-clause-awaits
+wait_turn-requires-clause-awaits c = let e : c.in-Some.claim + 1 ≡ c.awaited_at.result = omega (arith, c.in-Some.ensures) in
+    e ∙ awaited-read c.args.job.now c.args.table.now c.args.w c.claim_count-claims.ensures.value c.awaited_at.ensures.value
 
-pub returns-then-awaited-gt0 : goal.returns-then-awaited-gt0
-returns-then-awaited-gt0 c = c.wait_turn.ensures _ _ c.requires.keeps
+pub returns-in-Some : goal.returns-in-Some
+returns-in-Some c = c.wait_turn.ensures _ _ _ c.requires.keeps
 
-pub newest_at-n-requires : goal.newest_at-n-requires
-newest_at-n-requires c = let a = c.args in
-    let p = c.requires in
-    omega (arith, room a.job.now a.table.now p.ready.table, p.w_bound, c.claim_count-claims.ensures.value)
+pub newest_at-requires : goal.newest_at-requires
+newest_at-requires c = omega (arith, room c.args.job.now c.args.table.now c.requires.ready.table, c.requires.w_bound, c.claim_count-claims.ensures.value)
 
-pub ask_turn-requires : goal.ask_turn-requires
-ask_turn-requires c = let p = c.requires in record { listed = p.listed; well_formed = (p.ready.job, p.ready.table, p.w_bound, p.ready.newests) }
-
-pub returns-then-n-eq0 : goal.returns-then-n-eq0
-returns-then-n-eq0 c = let a = c.args in
-    let s = a.job.now in
-    let t = a.table.now in
+pub returns-in_default-checked_sub : goal.returns-in_default-checked_sub
+returns-in_default-checked_sub c = let s = c.args.job.now in
+    let t = c.args.table.now in
     let p = c.requires in
     let n = c.claim_count-claims.ensures.value in
-    let e = awaited-read s t a.w n c.awaited_at-awaited.ensures.value in
-    done_through (asks s t a.w p.ready.newests e (omega arith) p.w_bound (newest-read s t a.w n c.newest_at-n.ensures.value) c.if-n-eq0.true) (c.ask_turn.ensures _ _ p.keeps)
+    let e = awaited-read s t c.args.w n c.awaited_at.ensures.value in
+    done_through (asks s t c.args.w p.ready.newests e (omega (arith, c.in_default.ensures)) p.w_bound (newest-read s t c.args.w n c.newest_at.ensures.value) (omega (arith, c.in_default-checked_sub.ensures))) c.ask_turn.ensures
 
-pub work_turn-requires : goal.work_turn-requires
-work_turn-requires c = let a = c.args in
-    let s = a.job.now in
-    let t = a.table.now in
+-- the newest claim is below the word
+newest : (c : In-Some-checked_sub) → c.newest_at.result ≡ c.in-Some-checked_sub.n + 1
+newest c = omega (arith, c.in-Some-checked_sub.ensures)
+
+pub work_turn-requires-clause-n_bound : goal.work_turn-requires-clause-n_bound
+work_turn-requires-clause-n_bound c = let s = c.args.job.now in
+    let t = c.args.table.now in
     let p = c.requires in
     let n = c.claim_count-claims.ensures.value in
-    let v = c.newest_at-n.ensures.value in record { ready = p.ready; n_bound = (omega (arith, c.if-n-eq0.false, v, n, kept_low s t p.ready.newests a.w p.w_bound n), p.w_bound, newest-sought s t a.w p.ready.newests p.w_bound (newest-read s t a.w n v) c.if-n-eq0.false); keeps = p.keeps }
+    let v = c.newest_at.ensures.value in
+    let q = newest (goal.at.work_turn-requires-clause-n_bound c).In-Some-checked_sub in
+    (omega (arith, q, v, n, kept_low s t p.ready.newests c.args.w p.w_bound n), p.w_bound, newest-sought s t c.args.w p.ready.newests p.w_bound (newest-read s t c.args.w n v) _ q)
 
 pub returns : goal.returns
-returns c = let a = c.args in
-    let s = a.job.now in
-    let t = a.table.now in
+returns c = let s = c.args.job.now in
+    let t = c.args.table.now in
     let p = c.requires in
     let n = c.claim_count-claims.ensures.value in
-    let e = awaited-read s t a.w n c.awaited_at-awaited.ensures.value in
-    done_through (works s t a.w p.ready.newests e (omega arith) p.w_bound (newest-read s t a.w n c.newest_at-n.ensures.value) c.if-n-eq0.false) c.work_turn.ensures
+    let e = awaited-read s t c.args.w n c.awaited_at.ensures.value in
+    done_through (works s t c.args.w p.ready.newests e (omega (arith, c.in_default.ensures)) p.w_bound (newest-read s t c.args.w n c.newest_at.ensures.value) _ (newest (goal.at.returns c).In-Some-checked_sub)) c.work_turn.ensures

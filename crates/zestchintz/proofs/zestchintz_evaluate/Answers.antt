@@ -3,7 +3,7 @@ use mathlib.Core.Path.{◌≡◌, subst, subst⁻¹}
 use mathlib.Core.List.{List}
 use native.Mathlib.Omega.{arith}
 use lib.ListN.{length}
-use Rattle.job.specs.declared.Check.{Check}
+use Rattle.job.specs.Check.{Check}
 use Rattle.model.specs.Output.{Evaluated}
 use Rattle.zestchintz.proofs.Answers.{plain-answered, coded_as}
 use Rattle.zestchintz.specs.Code.{Answered}

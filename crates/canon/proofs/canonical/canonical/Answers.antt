@@ -1,15 +1,21 @@
 -- The check, and where it accepts, the form written.
+use mathlib.Core.Path.{ap}
 use native.Mathlib.Omega.{arith}
+use Rattle.job.proofs.Rows.{returned}
+use Rattle.writing.proofs.Wrote.{put_as}
+use Rattle.forms.specs.Form.{form_bytes}
 use Rattle.canon.proofs.Answered.{form_accepts, canonical-written, canonical_refused}
 use Rattle.canon.proofs.canonical.canonical.Goals as goal
 
-pub returns-in_default : goal.returns-in_default
-returns-in_default c = record { canonical = canonical_refused c.check_form-check.ensures c.in_default.is; length_in_bounds = omega arith }
+pub returns-in_err-check_form : goal.returns-in_err-check_form
+returns-in_err-check_form c = rw (returned _ c.from_residual.ensures.1) (record { canonical = canonical_refused c.in_err-check_form.ensures; within = tt })
 
-pub put_canonical-requires : goal.put_canonical-requires
-put_canonical-requires c = form_accepts _ _ c.check_form-check.ensures c.in-Accepted.is
+pub of_accepted-job-requires : goal.of_accepted-job-requires
+of_accepted-job-requires c = (form_accepts _ _ c.in_ok-check_form.ensures).0
+
+pub write_form-requires : goal.write_form-requires
+write_form-requires c = rw c.of_accepted-job.ensures (form_accepts _ _ c.in_ok-check_form.ensures).1
 
 pub returns : goal.returns
-returns c = let e = c.check_form-check.ensures in
-    let a = c.in-Accepted.is in
-    let p = c.put_canonical.ensures in record { canonical = canonical-written e a p; length_in_bounds = omega (arith, p.next, (form_accepts _ _ e a).1, c.put_canonical.auto.out) }
+returns c = let p = put_as c.write_form.ensures (ap form_bytes c.of_accepted-job.ensures) in
+    record { canonical = canonical-written c.in_ok-check_form.ensures p; within = omega (arith, p.next, (form_accepts _ _ c.in_ok-check_form.ensures).1, c.write_form.auto.out) }

@@ -8,4 +8,4 @@ returns-then-missing_at c = length-missing _ _ (sym c.if-missing_at.true ∙ c.m
 
 pub returns : goal.returns
 returns c = let p = c.requires in
-    length-kept p.1 _ _ p.2 (sym c.if-missing_at.false ∙ c.missing_at.ensures) c.half.ensures.value
+    length-kept p.0 _ _ p.1 (sym c.if-missing_at.false ∙ c.missing_at.ensures) c.from.ensures

@@ -1,9 +1,12 @@
--- The slice of s that holds the rule's literals.
-use Rattle.canon.proofs.Records.{body-room, body_put}
+use mathlib.Core.Path.{ap}
+use mathlib.Core.List.{flat_map}
+use Rattle.job.specs.Encoding.{half_bytes}
+use Rattle.writing.proofs.Writing.{writes_as}
+use Rattle.canon.proofs.Records.{body-room}
 use Rattle.canon.proofs.write.put_body.Goals as goal
 
 pub put_literals-requires : goal.put_literals-requires
-put_literals-requires c = body-room _ _ _ _ _ _ c.half-from.ensures.value c.half.ensures.value _ _ c.requires.i_in_bounds
+put_literals-requires c = body-room _ _ _ _ _ c.kept.ensures _ _ c.requires.room
 
 pub returns : goal.returns
-returns c = body_put _ _ _ _ _ _ c.half-from.ensures.value c.half.ensures.value c.put_literals.ensures
+returns c = writes_as c.put_literals.ensures (ap (flat_map (λ x. half_bytes x)) c.kept.ensures)

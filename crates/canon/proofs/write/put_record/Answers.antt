@@ -1,7 +1,15 @@
 -- Head and body length, one after the other.
+use mathlib.Core.Path.{◌∙◌}
+use native.Mathlib.Omega.{arith}
+use Rattle.writing.proofs.Writing.{writes-room}
 use Rattle.canon.proofs.Records.{record_put}
 use Rattle.canon.proofs.write.put_record.Goals as goal
 
+pub put_half-requires-2 : goal.put_half-requires-2
+put_half-requires-2 c = writes-room _ _ _ (omega (arith, c.requires.room)) c.put_half.ensures 2 (omega (arith, c.requires.room))
+
 pub returns : goal.returns
-returns c = let p = c.requires in
-    record_put _ _ _ _ _ _ _ _ _ _ p.at_in_bounds c.head_at.ensures.value c.length_field.ensures c.put_half-a.ensures c.put_half.ensures
+returns c = record {
+  same_buffer = c.put_half-2.ensures.same_buffer ∙ c.put_half.ensures.same_buffer;
+  put = record_put _ _ _ _ _ _ _ _ _ _ c.requires.room c.head_at.ensures.value c.length_field.ensures c.put_half.ensures.put c.put_half-2.ensures.put;
+}

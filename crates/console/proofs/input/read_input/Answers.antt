@@ -21,9 +21,9 @@ slice_range-put_mid a k n xs ys within fits =
 pub loop-done-preserved : goal.loop-done-preserved
 loop-done-preserved g c =
     let from = c.loop-done.done in
-    let more = c.read_once-more.result.length in
+    let more = c.in-Ok.count in
     let room = length c.loop-done.buf - from in
     let within = c.loop-done.invariant.0 in
-    let part = slice_range-put_mid from room more c.loop-done.buf c.read_once-more.new.part within c.read_once-more.ensures.length_in_bounds in
-    let joined = take_split from (from + more) c.loop-done.buf (put_mid from room c.loop-done.buf c.read_once-more.new.part) (omega arith) (take-put_mid_below _ _ _ _ _ (le_refl _) within) in
-    (search rules, search rules, subst (Consumes _ _) (ap (λ l. take from c.loop-done.buf ++ l) (sym part) ∙ joined) (Consumes-trans _ _ _ _ _ c.loop-done.invariant.2 c.read_once-more.ensures.bytes))
+    let part = slice_range-put_mid from room more c.loop-done.buf c.read_part.new.part within c.in-Ok.ensures.bound.0 in
+    let joined = take_split from (from + more) c.loop-done.buf (put_mid from room c.loop-done.buf c.read_part.new.part) (omega arith) (take-put_mid_below _ _ _ _ _ (le_refl _) within) in
+    (search rules, search rules, subst (Consumes _ _) (ap (λ l. take from c.loop-done.buf ++ l) (sym part) ∙ joined) (Consumes-trans _ _ _ _ _ c.loop-done.invariant.2 c.in-Ok.ensures.bytes.0))

@@ -6,19 +6,20 @@ use Rattle.counters.proofs.Doubting.{listed_more, doubted_all, listed_all}
 use Rattle.counters.proofs.recover.list_all.Goals as goal
 
 pub loop-c-init : goal.loop-c-init
-loop-c-init c = (refl, omega arith, λ j m. absurd (omega arith))
+loop-c-init c = (refl, refl, λ j m. absurd (omega arith))
+
+pub push-requires : goal.push-requires
+push-requires c = record { room = omega (arith, c.requires) }
 
 pub loop-c-preserved : goal.loop-c-preserved
-loop-c-preserved c = (
-  simp length-set c.loop-c.invariant.0,
-  omega arith,
-  listed_more c.loop-c.list c.loop-c.c (omega arith) c.loop-c.invariant.2,
-)
-
-pub shape_of-list : goal.shape_of-list
-shape_of-list c = c.loop-c.invariant.0
+loop-c-preserved c = let l = c.loop-c in
+    rw (c.push.ensures.keys, c.push.ensures.len, l.invariant.0) (
+      refl,
+      simp length-set l.invariant.1,
+      listed_more l.list.keys.now l.c (omega (arith, c.requires)) l.invariant.2,
+    )
 
 pub returns : goal.returns
-returns c = let A = c.args.claims in
-    let all : (j : ℕ) → j < A → get_or c.loop-c.list j 0 ≡ 2 * j = λ j m. c.loop-c.invariant.2 j (omega arith) in
-    (doubted_all A _ all (omega arith), listed_all A _ all)
+returns c = let l = c.loop-c in
+    let all : (j : ℕ) → j < c.args.claims → get_or l.list.keys.now j 0 ≡ 2 * j = λ j m. l.invariant.2 j (omega arith) in
+    (omega (arith, l.invariant.0), doubted_all c.args.claims _ all (omega (arith, c.requires, l.invariant.1)), listed_all c.args.claims _ all)

@@ -1,80 +1,51 @@
-use Prim.Native.Nat.{◌*◌, ◌/◌, ◌<◌}
-use mathlib.Core.Path.{◌≡◌}
+use Prim.Native.Nat.{ℕ, ◌+◌, ◌<◌}
+use mathlib.Core.Path.{refl}
 use native.Mathlib.Omega.{arith}
-use lib.ListN.{length, get_or}
+use lib.ListN.{length, length-take}
 use Rattle.base.proofs.ByteSets.{set-yes, set-no}
 use Rattle.counters.proofs.Queues.{queue-top}
-use Rattle.counters.proofs.Doubting.{doubted_key, doubted-small}
+use Rattle.counters.proofs.Doubting.{Read, doubted-read}
 use Rattle.counters.proofs.Losing.{losing-start, losing-room, losing_push, losing_skip, losing-is, losing_done}
 use Rattle.counters.proofs.recover.lose.Goals as goal
-use Rattle.counters.proofs.recover.lose.Goals.{then-u-half-eq0, else-u-half-eq0, After-half, Then-u-half-eq0}
+use Rattle.counters.proofs.recover.lose.Goals.{then-u-from-eq0, else-u-from-eq0, After-from, Then-u-from-eq0}
 
-pub loop-i-init : goal.loop-i-init
-loop-i-init c = let pre = c.requires in
-    (omega arith, pre.doubted.0.ordered, losing-start _ pre.doubted.0 pre.doubted.1 pre.by_index)
+pub offset_bounds-list-from : goal.offset_bounds-list-from
+offset_bounds-list-from c = let d = c.requires.doubted.0 in omega (arith, queue-top d.queue, d.ordered)
 
-pub offset_bounds-list-i : goal.offset_bounds-list-i
-offset_bounds-list-i c = let d = c.requires.doubted.0 in omega (arith, queue-top d.queue, d.queue.long)
+pub slice_bounds-key-items-end : goal.slice_bounds-key-items-end
+slice_bounds-key-items-end c = let d = c.requires.doubted.0 in omega (arith, queue-top d.queue, d.queue.long)
 
-pub bounds-list-i : goal.bounds-list-i
-bounds-list-i c = let d = c.requires.doubted.0 in
-    omega (arith, queue-top d.queue, d.queue.long)
+pub loop-key-init : goal.loop-key-init
+loop-key-init c = losing-start _ (omega arith) c.requires.doubted.0 c.requires.doubted.1 c.requires.no_negated
 
--- the key that was read is twice its claim
-read :
-    (c : After-half)
-    → get_or c.args.list.now c.loop-i.i 0
-    ≡ 2 * (c.half.result / 2)
-read c =
-    let d = c.requires.doubted.0 in
-    doubted_key d c.loop-i.i c.loop-i.invariant.0 c.loop-i-test.true (c.half.result / 2) (omega (arith, c.half.ensures))
-
-pub bounds-u-half : goal.bounds-u-half
-bounds-u-half c = let d = c.requires.doubted.0 in
-    doubted-small d c.loop-i.i c.loop-i.invariant.0 c.loop-i-test.true _ (read (goal.at.bounds-u-half c).After-half)
-
-pub overflow_add-queue : goal.overflow_add-queue
-overflow_add-queue c = let d = c.requires.doubted.0 in
-    omega (
-      arith,
-      read (goal.at.overflow_add-queue c).After-half,
-      doubted-small d c.loop-i.i c.loop-i.invariant.0 c.loop-i-test.true (c.half.result / 2) (read (goal.at.overflow_add-queue c).After-half),
-    )
+-- the key that was read
+read : (c : After-from) → Read (length c.args.u.now) c.args.list.now.keys.now (c.args.from + c.loop-key.key-index) c.from.result
+read c = doubted-read c.requires.doubted.0 c.loop-key.key-index _ (omega (arith, length-take {A = ℕ})) c.from.ensures
 
 -- there is room for one more key
-room :
-    (c : Then-u-half-eq0)
-    → c.loop-i.top < length c.loop-i.queue
+room : (c : Then-u-from-eq0) → c.loop-key.queue.len < length c.loop-key.queue.keys.now
 room c =
-    let d = c.requires.doubted.0 in
-    losing-room d c.loop-i.invariant.2 c.loop-i.invariant.0 c.loop-i-test.true _ (read (goal.at.Then-u-half-eq0 c).After-half)
+    let at = read (goal.at.Then-u-from-eq0 c).After-from in
+    losing-room c.requires.doubted.0 c.loop-key.invariant (omega arith) (omega (arith, length-take {A = ℕ})) _ at.is
 
-pub offset_bounds-queue-top : goal.offset_bounds-queue-top
-offset_bounds-queue-top c = omega (arith, room (goal.at.offset_bounds-queue-top c).Then-u-half-eq0)
+pub overflow_add-key : goal.overflow_add-key
+overflow_add-key c = let at = read (goal.at.overflow_add-key c).After-from in omega (arith, at, c.from.ensures)
 
-pub bounds-queue-top : goal.bounds-queue-top
-bounds-queue-top c = room (goal.at.bounds-queue-top c).Then-u-half-eq0
+pub push-requires : goal.push-requires
+push-requires c = record { room = room (goal.at.push-requires c).Then-u-from-eq0 }
 
-pub overflow_add-top : goal.overflow_add-top
-overflow_add-top c = omega (arith, room (goal.at.overflow_add-top c).Then-u-half-eq0)
-
-pub loop-i-preserved : goal.loop-i-preserved
-loop-i-preserved c = let d = c.requires.doubted.0 in
-    let on = c.loop-i-test.true in (
-      omega arith,
-      omega arith,
-      elim c.if-u-half-eq0.branch [
-        | then-u-half-eq0 w ↦
-            losing-is w.queue-is w.top-is
-            (losing_push d c.loop-i.invariant.2 c.loop-i.invariant.0 on _ (read (goal.at.loop-i-preserved c).After-half) _ (omega (arith, read (goal.at.loop-i-preserved c).After-half)) (set-no _ _ w.if-u-half-eq0.true))
-        | else-u-half-eq0 w ↦
-            losing-is w.queue-is w.top-is
-            (losing_skip d c.loop-i.invariant.2 c.loop-i.invariant.0 on _ (read (goal.at.loop-i-preserved c).After-half) (set-yes _ _ w.if-u-half-eq0.false))
-      ],
-    )
-
-pub shape_of-queue : goal.shape_of-queue
-shape_of-queue c = c.loop-i.invariant.2.size
+pub loop-key-preserved : goal.loop-key-preserved
+loop-key-preserved c = let d = c.requires.doubted.0 in
+    let at = read (goal.at.loop-key-preserved c).After-from in
+    let inside : c.args.from + c.loop-key.key-index < c.args.list.now.len = omega (arith, length-take {A = ℕ}) in
+    elim c.if-u-from-eq0.branch [
+      | then-u-from-eq0 w ↦
+          rw w.queue-is
+          (losing-is (omega arith) w.push.ensures.keys w.push.ensures.len
+          (losing_push d c.loop-key.invariant (omega arith) inside _ at.is _ (omega (arith, at, c.from.ensures)) (set-no _ _ w.if-u-from-eq0.true)))
+      | else-u-from-eq0 w ↦
+          rw w.queue-is (losing-is (omega arith) refl refl (losing_skip d c.loop-key.invariant (omega arith) inside _ at.is (set-yes _ _ w.if-u-from-eq0.false)))
+    ]
 
 pub returns : goal.returns
-returns c = losing_done c.loop-i.invariant.2 (omega arith)
+returns c = losing_done c.loop-key.invariant (omega (arith, length-take {A = ℕ}))

@@ -1,64 +1,44 @@
-use Prim.Native.Nat.{◌*◌, ◌/◌, ◌<◌}
-use mathlib.Core.Path.{◌≡◌, subst⁻¹}
+use Prim.Native.Nat.{ℕ, ◌+◌}
+use mathlib.Core.Path.{refl}
 use native.Mathlib.Omega.{arith}
-use lib.ListN.{get_or}
-use Rattle.job.specs.Format.{claims, head_at}
-use Rattle.counters.specs.Positions.{Latest}
+use lib.ListN.{length-take}
+use Rattle.job.specs.Format.{claims}
 use Rattle.counters.proofs.Queues.{queue-top}
-use Rattle.counters.proofs.Doubting.{doubted_key, doubted-small}
+use Rattle.counters.proofs.Doubting.{Read, doubted-read}
 use Rattle.counters.proofs.Recovering.{recovering-start, recovering-room, recovering-join, recovering_skip, recovering-is, recovering_done}
 use Rattle.counters.proofs.recover.recover.Goals as goal
-use Rattle.counters.proofs.recover.recover.Goals.{After-half-c, then-standing, else-standing}
+use Rattle.counters.proofs.recover.recover.Goals.{After-from-c, then-standing, else-standing}
 
-pub loop-i-init : goal.loop-i-init
-loop-i-init c = let pre = c.requires in
-    (omega arith, pre.ends.2.ordered, recovering-start _ _ _ _ _ _ pre.u_len.0 pre.u_len.1)
+pub offset_bounds-list-from : goal.offset_bounds-list-from
+offset_bounds-list-from c = let d = c.requires.doubted.1 in omega (arith, queue-top d.queue, d.ordered)
 
-pub offset_bounds-list-i : goal.offset_bounds-list-i
-offset_bounds-list-i c = let d = c.requires.ends.2 in omega (arith, queue-top d.queue, d.queue.long)
+pub slice_bounds-key-items-end : goal.slice_bounds-key-items-end
+slice_bounds-key-items-end c = let d = c.requires.doubted.1 in omega (arith, queue-top d.queue, d.queue.long)
 
-pub bounds-list-i : goal.bounds-list-i
-bounds-list-i c = let d = c.requires.ends.2 in omega (arith, queue-top d.queue, d.queue.long)
+pub loop-key-init : goal.loop-key-init
+loop-key-init c = recovering-start _ _ _ _ _ _ _ (omega arith) c.requires.sizes.0 c.requires.sizes.1
 
--- the key that was read is twice its claim, and that is one of the claims
-read :
-    (c : After-half-c)
-    → get_or c.args.list.now c.loop-i.i 0 ≡ 2 * (c.half-c.result / 2)
-read c =
-    doubted_key c.requires.ends.2 c.loop-i.i c.loop-i.invariant.0 c.loop-i-test.true (c.half-c.result / 2)
-    (omega (arith, c.half-c.ensures))
-
-small : (c : After-half-c) → c.half-c.result / 2 < claims c.args.job.now
-small c =
-    doubted-small c.requires.ends.2 c.loop-i.i c.loop-i.invariant.0 c.loop-i-test.true _ (read c)
-
-pub bounds-tail-c : goal.bounds-tail-c
-bounds-tail-c c = omega (arith, small (goal.at.bounds-tail-c c).After-half-c, c.requires.ends.0.long)
+-- the key that was read
+read : (c : After-from-c) → Read (claims c.args.tables.now.job.now) c.args.list.now.keys.now (c.args.from + c.loop-key.key-index) c.from-c.result
+read c = doubted-read c.requires.doubted.1 c.loop-key.key-index _ (omega (arith, length-take {A = ℕ})) c.from-c.ensures
 
 pub standing-requires : goal.standing-requires
-standing-requires c = let pre = c.requires in record { well_formed = pre.well_formed; latest = (subst⁻¹ (Latest (head_at _) _ _) c.half.ensures.value (pre.ends.0.ends _ (small (goal.at.standing-requires c).After-half-c)), pre.ends.1) }
+standing-requires c = ((read (goal.at.standing-requires c).After-from-c).small, c.requires.doubted.0)
 
-pub join-top-requires : goal.join-top-requires
-join-top-requires c = let good = c.requires.well_formed in record { c_in_bounds = (omega (arith, small (goal.at.join-top-requires c).After-half-c, c.loop-i.invariant.2.fits.size), omega (arith, small (goal.at.join-top-requires c).After-half-c, good.sized.claims_most)); top_in_bounds = recovering-room c.loop-i.invariant.2 _ (small (goal.at.join-top-requires c).After-half-c) }
+pub join-requires-clause-room : goal.join-requires-clause-room
+join-requires-clause-room c = recovering-room c.loop-key.invariant _ (read (goal.at.join-requires-clause-room c).After-from-c).small
 
-pub loop-i-preserved : goal.loop-i-preserved
-loop-i-preserved c = let stands = c.standing.ensures in (
-  omega arith,
-  omega arith,
-  elim c.if-standing.branch [
-    | then-standing w ↦
-        recovering-is w.u-is w.queue-is w.top-is
-        (recovering-join c.loop-i.invariant.2 _ (read (goal.at.loop-i-preserved c).After-half-c) (small (goal.at.loop-i-preserved c).After-half-c) (stands.0 w.if-standing.true) w.join-top.ensures)
-    | else-standing w ↦
-        recovering-is w.u-is w.queue-is w.top-is (recovering_skip c.loop-i.invariant.2 _ (read (goal.at.loop-i-preserved c).After-half-c) (stands.1 w.if-standing.false))
-  ],
-)
-
-pub shape_of-u : goal.shape_of-u
-shape_of-u c = omega (arith, c.loop-i.invariant.2.fits.size, c.requires.u_len.0)
-
-pub shape_of-queue : goal.shape_of-queue
-shape_of-queue c = c.loop-i.invariant.2.size
+pub loop-key-preserved : goal.loop-key-preserved
+loop-key-preserved c = let at = read (goal.at.loop-key-preserved c).After-from-c in
+    elim c.if-standing.branch [
+      | then-standing w ↦
+          rw (w.u-is, w.queue-is)
+          (recovering-is (omega arith) refl refl refl
+          (recovering-join c.loop-key.invariant _ at.is at.small (c.standing.ensures.0 w.if-standing.true) w.join.ensures))
+      | else-standing w ↦
+          rw (w.u-is, w.queue-is)
+          (recovering-is (omega arith) refl refl refl (recovering_skip c.loop-key.invariant _ at.is (c.standing.ensures.1 w.if-standing.false)))
+    ]
 
 pub returns : goal.returns
-returns c = recovering_done c.loop-i.invariant.2 c.requires.ends.2 (omega arith)
+returns c = recovering_done c.loop-key.invariant c.requires.doubted.1 (omega (arith, length-take {A = ℕ}))

@@ -1,10 +1,6 @@
 -- : each claim adds its literal, if it stands in the body.
-use Prim.Native.Nat.{◌-◌}
 use Rattle.counting.proofs.Written.{Counting, signs_before}
 use Rattle.counting.proofs.write.body_length.Given as goal
 
 abbrev pub invariant-loop-c : goal.invariant-loop-c
 invariant-loop-c l = Counting (signs_before l.size l.x) 1 l.size l.c l.n
-
-abbrev pub decreases-loop-c : goal.decreases-loop-c
-decreases-loop-c l = l.size - l.c

@@ -7,8 +7,5 @@ use Rattle.counting.proofs.write.choice_length.Goals as goal
 pub returns-then-v-eq0 : goal.returns-then-v-eq0
 returns-then-v-eq0 c = record { value = sym (ap length (chosen_none c.args.size _ c.if-v-eq0.true)); small = omega arith }
 
-pub body_length-requires : goal.body_length-requires
-body_length-requires c = let p = c.requires in (p.0, omega (arith, p.1, c.if-v-eq0.false))
-
 pub returns : goal.returns
 returns c = record { value = c.body_length.ensures.value ∙ sym (ap length (chosen-some _ _ c.if-v-eq0.false c.requires.1)); small = c.body_length.ensures.small }

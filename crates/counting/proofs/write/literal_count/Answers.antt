@@ -12,12 +12,6 @@ use Rattle.counting.proofs.write.literal_count.Goals as goal
 pub loop-c-init : goal.loop-c-init
 loop-c-init c = counting-start _ _ _ (bodies_none _)
 
-pub choice_of-requires : goal.choice_of-requires
-choice_of-requires c = let p = c.requires in (p.0, omega arith, p.1)
-
-pub choice_length-n-requires : goal.choice_length-n-requires
-choice_length-n-requires c = (c.requires.0, c.choice_of.ensures.small)
-
 pub overflow_add-n : goal.overflow_add-n
 overflow_add-n c = let l = c.loop-c in omega (arith, l.invariant.low, l.invariant.within, c.requires.0, c.choice_length-n.ensures.small)
 

@@ -1,10 +1,6 @@
 -- : each claim adds its rule, if its choice is one.
-use Prim.Native.Nat.{◌-◌}
 use Rattle.counting.proofs.Written.{Counting, rules_before}
 use Rattle.counting.proofs.write.rule_count.Given as goal
 
 abbrev pub invariant-loop-c : goal.invariant-loop-c
 invariant-loop-c l = Counting (rules_before l.size l.k) 1 l.size l.c l.n
-
-abbrev pub decreases-loop-c : goal.decreases-loop-c
-decreases-loop-c l = l.size - l.c

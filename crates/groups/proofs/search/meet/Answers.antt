@@ -5,23 +5,17 @@ use Rattle.groups.proofs.Scopes.{narrow-small, push-room, met-settled, met_out, 
 use Rattle.groups.proofs.search.meet.Goals as goal
 use Rattle.groups.proofs.search.meet.Goals.{After-narrow}
 
-pub bounds-scopes-claim : goal.bounds-scopes-claim
-bounds-scopes-claim c = omega (arith, c.requires)
-
 pub returns-then-settled : goal.returns-then-settled
-returns-then-settled c = met-settled _ _ _ _ c.half-scope.ensures.value _ c.settled.ensures c.if-settled.true
+returns-then-settled c = met-settled _ _ _ _ c.from-scope.ensures _ c.settled.ensures c.if-settled.true
 
 -- a claim that is to be pushed has room
 room : (c : After-narrow) → c.args.top < most_claims
 room c =
     push-room _ c.args.claim _ c.requires.2 c.requires.0
-    (met_out _ _ (record { scopes = c.args.scopes.now; queue = c.args.queue.now; top = c.args.top }) _ c.half-scope.ensures.value _ c.settled.ensures c.if-settled.false)
+    (met_out _ _ (record { scopes = c.args.scopes.now; queue = c.args.queue.now; top = c.args.top }) _ c.from-scope.ensures _ c.settled.ensures c.if-settled.false)
 
 pub overflow_cast-scopes : goal.overflow_cast-scopes
-overflow_cast-scopes c = omega (arith, c.narrow.ensures, narrow-small c.args.group c.half-scope.result, c.requires.1)
-
-pub bounds-scopes-claim-2 : goal.bounds-scopes-claim-2
-bounds-scopes-claim-2 c = omega (arith, c.requires)
+overflow_cast-scopes c = omega (arith, c.narrow.ensures, narrow-small c.args.group c.from-scope.result, c.requires.1)
 
 pub offset_bounds-queue-top : goal.offset_bounds-queue-top
 offset_bounds-queue-top c = omega (arith, room (goal.at.offset_bounds-queue-top c).After-narrow)
@@ -33,4 +27,4 @@ pub overflow_add-result : goal.overflow_add-result
 overflow_add-result c = omega (arith, room (goal.at.overflow_add-result c).After-narrow)
 
 pub returns : goal.returns
-returns c = met-pushed _ _ _ _ c.half-scope.ensures.value _ c.settled.ensures c.if-settled.false _ c.narrow.ensures
+returns c = met-pushed _ _ _ _ c.from-scope.ensures _ c.settled.ensures c.if-settled.false _ c.narrow.ensures

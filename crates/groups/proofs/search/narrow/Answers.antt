@@ -5,5 +5,5 @@ use Rattle.groups.proofs.search.narrow.Goals as goal
 pub returns-then-scope-eq0 : goal.returns-then-scope-eq0
 returns-then-scope-eq0 c = sym (narrow_first _ _ c.if-scope-eq0.true)
 
-pub returns : goal.returns
-returns c = sym (narrow-later _ _ c.if-scope-eq0.false)
+pub returns-else-scope-eq0 : goal.returns-else-scope-eq0
+returns-else-scope-eq0 c = sym (narrow-later _ _ c.if-scope-eq0.false)

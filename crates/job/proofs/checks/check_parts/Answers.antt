@@ -1,27 +1,25 @@
-use mathlib.Core.Path.{sym, ◌∙◌}
 use Rattle.job.proofs.Accepted.{bodies-sum}
-use Rattle.job.proofs.Rows.{go, halt}
+use Rattle.job.proofs.Rows.{onward, exit}
 use Rattle.job.specs.Checks.{check_parts}
 use Rattle.job.proofs.checks.check_parts.Goals as goal
 
-pub returns-in_default : goal.returns-in_default
+pub returns-in_err-check_heads : goal.returns-in_err-check_heads
 unfolding check_parts
-returns-in_default c = halt _ _ c.in_default.is c.check_heads-heads.ensures
+returns-in_err-check_heads c = exit _ _ c.from_residual.ensures.1 c.in_err-check_heads.ensures
 
-pub returns-in_default-bodies : goal.returns-in_default-bodies
+pub returns-in_err-check_bodies : goal.returns-in_err-check_bodies
 unfolding check_parts
-returns-in_default-bodies c = go _ _ c.in-Accepted.is c.check_heads-heads.ensures (halt _ _ c.in_default-bodies.is c.check_bodies-bodies.ensures)
+returns-in_err-check_bodies c = onward _ _ c.in_ok-check_heads.ensures (exit _ _ c.from_residual-in_err-check_bodies.ensures.1 c.in_err-check_bodies.ensures)
 
-pub check_literals-literals-requires : goal.check_literals-literals-requires
-check_literals-literals-requires c = record { sized = c.requires; job_value = bodies-sum _ (sym c.in-Accepted-bodies.is ∙ c.check_bodies-bodies.ensures) }
+pub check_literals-requires-clause-job_value : goal.check_literals-requires-clause-job_value
+check_literals-requires-clause-job_value c = bodies-sum _ c.in_ok-check_bodies.ensures
 
-pub returns-in_default-literals : goal.returns-in_default-literals
+pub returns-in_err-check_literals : goal.returns-in_err-check_literals
 unfolding check_parts
-returns-in_default-literals c = go _ _ c.in-Accepted.is c.check_heads-heads.ensures
-    (go _ _ c.in-Accepted-bodies.is c.check_bodies-bodies.ensures (halt _ _ c.in_default-literals.is c.check_literals-literals.ensures))
+returns-in_err-check_literals c = onward _ _ c.in_ok-check_heads.ensures
+    (onward _ _ c.in_ok-check_bodies.ensures (exit _ _ c.from_residual-in_err-check_literals.ensures.1 c.in_err-check_literals.ensures))
 
 pub returns : goal.returns
 unfolding check_parts
-returns c = go _ _ c.in-Accepted.is c.check_heads-heads.ensures
-    (go _ _ c.in-Accepted-bodies.is c.check_bodies-bodies.ensures
-    (go _ _ c.in-Accepted-literals.is c.check_literals-literals.ensures c.check_questions.ensures))
+returns c = onward _ _ c.in_ok-check_heads.ensures
+    (onward _ _ c.in_ok-check_bodies.ensures (onward _ _ c.in_ok-check_literals.ensures c.check_questions.ensures))

@@ -7,7 +7,7 @@ use Rattle.job.specs.Bytes.{half}
 use Rattle.job.specs.Format.{rules, literal_byte, literal_at}
 use Rattle.job.specs.Job.{claim_of}
 use Rattle.job.proofs.checks.highest_claim.Goals as goal
-use Rattle.job.proofs.checks.highest_claim.Goals.{After-half-field, then-highest-claim, else-highest-claim}
+use Rattle.job.proofs.checks.highest_claim.Goals.{After-half-field}
 
 pub loop-k-init : goal.loop-k-init
 loop-k-init c = (omega arith, below_none _)
@@ -21,14 +21,8 @@ claim c =
     literal-claim (c.half-field.ensures.value ∙ ap (λ (m : ℕ). half s (literal_byte m k)) e) c.half-field.ensures.small
 
 pub loop-k-preserved : goal.loop-k-preserved
-loop-k-preserved c = let l = c.loop-k in
-    let e = claim (goal.at.loop-k-preserved c).After-half-field in (
-      omega arith,
-      elim c.if-highest-claim.branch [
-        | then-highest-claim w ↦ below_more _ _ (λ j b. omega (arith, l.invariant.1 j b)) (omega arith)
-        | else-highest-claim w ↦ below_more _ _ (λ j b. omega (arith, l.invariant.1 j b)) (omega arith)
-      ],
-    )
+loop-k-preserved c = let e = claim (goal.at.loop-k-preserved c).After-half-field in
+    (omega arith, below_more _ _ (λ j b. omega (arith, c.loop-k.invariant.1 j b)) (omega arith))
 
 pub returns : goal.returns
 returns c = λ k l. c.loop-k.invariant.1 k (omega arith)

@@ -9,5 +9,6 @@ pub returns-then-i-rules : goal.returns-then-i-rules
 unfolding under
 returns-then-i-rules c = ap (λ (x : ℕ). ltb x c.args.claim) c.head_at.ensures.value ∙ rw (under-yes _ _ c.if-i-rules.true)
 
-pub returns : goal.returns
-returns c = rw (under-no _ _ c.if-i-rules.false)
+pub returns-else-i-rules : goal.returns-else-i-rules
+unfolding under
+returns-else-i-rules c = rw (under-no _ _ c.if-i-rules.false)

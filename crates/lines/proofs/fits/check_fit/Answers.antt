@@ -5,25 +5,23 @@ use native.Mathlib.Omega.{arith}
 use mathlib.Core.Path.{refl, sym, ◌∙◌, ap}
 use Rattle.lines.proofs.fits.check_fit.Goals as goal
 
-pub loop-i-init : goal.loop-i-init
+pub loop-b-init : goal.loop-b-init
 unfolding check_fit
-loop-i-init c = (refl, omega arith, omega arith, refl)
+loop-b-init c = (omega arith, refl)
 
 pub returns-then-is_bad : goal.returns-then-is_bad
-returns-then-is_bad c = let l = c.loop-i in
+returns-then-is_bad c = let l = c.loop-b in
     let st = c.step-next.ensures in
     let bad = ap is_bad (sym st) ∙ sym c.is_bad.ensures ∙ c.if-is_bad.true in
-    c.unfit.ensures ∙ rw c.starts_line-line.ensures.0 (fits-stop l.state l.line l.i _ (omega arith) bad ∙ l.invariant.3)
+    c.unfit.ensures ∙ rw c.starts_line-line.ensures.0 (fits-stop l.state l.line l.b-index _ (omega arith) bad ∙ l.invariant.1)
 
-pub loop-i-preserved : goal.loop-i-preserved
-loop-i-preserved c = let l = c.loop-i in
+pub loop-b-preserved : goal.loop-b-preserved
+loop-b-preserved c = let l = c.loop-b in
     let st = c.step-next.ensures in
     let good = ap is_bad (sym st) ∙ sym c.is_bad.ensures ∙ c.if-is_bad.false in (
-      refl,
       omega arith,
-      omega arith,
-      rw (st, c.starts_line-line.ensures.0) (fits_more l.state l.line l.i _ (omega arith) good ∙ l.invariant.3),
+      rw (st, c.starts_line-line.ensures.0) (fits_more l.state l.line l.b-index _ (omega arith) good ∙ l.invariant.1),
     )
 
 pub returns : goal.returns
-returns c = c.check_end.ensures ∙ fits_end c.loop-i.state c.loop-i.line c.loop-i.i _ (omega arith) ∙ c.loop-i.invariant.3
+returns c = c.check_end.ensures ∙ fits_end c.loop-b.state c.loop-b.line c.loop-b.b-index _ (omega arith) ∙ c.loop-b.invariant.1

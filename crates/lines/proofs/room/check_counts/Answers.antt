@@ -1,18 +1,26 @@
-use mathlib.Core.Path.{◌∙◌, ap}
-use Rattle.job.proofs.Rows.{go, halt}
+use mathlib.Core.Path.{sym, ◌∙◌, ap}
+use Rattle.std.specs.Prelude.{Result}
+use Rattle.job.proofs.Rows.{returned}
+use Rattle.job.specs.declared.Refusal.{Refusal}
+use Rattle.lines.specs.Answer.{go_on, check_of}
 use Rattle.lines.specs.Room.{room_row, check_counts}
-use Rattle.lines.specs.declared.Counted.{Counted}
-use Rattle.lines.proofs.Tallies.{small_at}
+use Rattle.lines.specs.declared.Tally.{Tally}
+use Rattle.lines.proofs.Tallies.{all_small}
 use Rattle.lines.proofs.room.check_counts.Goals as goal
 
-pub returns-in_default : goal.returns-in_default
+pub returns-in_err-tally-clause-check : goal.returns-in_err-tally-clause-check
 unfolding check_counts
-returns-in_default c = let e = c.count_numbers-counted.ensures in record { check_value = halt _ _ c.in_default.is (ap (λ (x : Counted). x.check) e); tally_value = ap (λ (x : Counted). x.tally) e }
+returns-in_err-tally-clause-check c = ap check_of (returned _ c.from_residual.ensures.1) ∙ ap (λ (r : Result Tally Refusal). go_on r (room_row c.args.room)) c.in_err-tally.ensures
 
 pub check_room-requires : goal.check_room-requires
-check_room-requires c = small_at _ _ (ap (λ (x : Counted). x.tally) c.count_numbers-counted.ensures)
+check_room-requires c = all_small _ c.in_ok-tally.tally (sym c.in_ok-tally.ensures)
 
-pub returns : goal.returns
+pub returns-in_err-check_room-clause-check : goal.returns-in_err-check_room-clause-check
 unfolding check_counts
-returns c = let e = c.count_numbers-counted.ensures in
-    let t = ap (λ (x : Counted). x.tally) e in record { check_value = go _ _ c.in-Accepted.is (ap (λ (x : Counted). x.check) e) (c.check_room.ensures ∙ ap (room_row c.args.room) t); tally_value = t }
+returns-in_err-check_room-clause-check c = ap check_of (returned _ c.from_residual-in_err-check_room.ensures.1)
+    ∙ c.in_err-check_room.ensures
+    ∙ ap (λ (r : Result Tally Refusal). go_on r (room_row c.args.room)) c.in_ok-tally.ensures
+
+pub returns-clause-check : goal.returns-clause-check
+unfolding check_counts
+returns-clause-check c = c.in_ok-check_room.ensures ∙ ap (λ (r : Result Tally Refusal). go_on r (room_row c.args.room)) c.in_ok-tally.ensures

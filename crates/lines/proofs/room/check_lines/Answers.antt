@@ -1,13 +1,13 @@
-use mathlib.Core.Path.{sym, ◌∙◌}
-use Rattle.job.proofs.Rows.{go, halt}
+use mathlib.Core.Path.{◌∙◌, ap}
+use Rattle.job.proofs.Rows.{returned, onward, halt}
+use Rattle.lines.specs.Answer.{check_of}
 use Rattle.lines.specs.Room.{check_text}
-use Rattle.lines.proofs.Tails.{never}
 use Rattle.lines.proofs.room.check_lines.Goals as goal
 
-pub returns-in_default : goal.returns-in_default
+pub returns-in_err-check_fit-clause-check : goal.returns-in_err-check_fit-clause-check
 unfolding check_text
-returns-in_default c = record { check_value = halt _ _ c.in_default.is c.check_fit-fit.ensures; tally_value = λ e. never (sym e ∙ c.in_default.is) }
+returns-in_err-check_fit-clause-check c = let e = ap check_of (returned _ c.from_residual.ensures.1) in halt _ _ e (e ∙ c.in_err-check_fit.ensures)
 
-pub returns : goal.returns
+pub returns-clause-check : goal.returns-clause-check
 unfolding check_text
-returns c = record { check_value = go _ _ c.in-Accepted.is c.check_fit-fit.ensures c.check_counts.ensures.check_value; tally_value = λ e. c.check_counts.ensures.tally_value }
+returns-clause-check c = onward _ _ c.in_ok-check_fit.ensures c.check_counts.ensures.check

@@ -1,4 +1,4 @@
-use Rattle.job.specs.declared.Check.TheVariants.{Refused}
+use Rattle.job.specs.Check.{Refused}
 use Rattle.lines.specs.Room.{room_row}
 use Rattle.job.proofs.Rows.{stop, pass}
 use Rattle.base.proofs.Compare.{under-yes, under-no}

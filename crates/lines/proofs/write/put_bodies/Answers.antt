@@ -1,28 +1,15 @@
-use Prim.Native.Nat.{◌<◌}
-use mathlib.Core.Path.{refl}
 use native.Mathlib.Omega.{arith}
-use lib.ListN.{length}
-use Rattle.writing.proofs.Parted.{parted-start, parted-room, parted_size, parted_more, parted_end}
-use borrow.Author.Rules.{rules}
+use Rattle.writing.proofs.Writing.{along-start, along-room, along_more, along_end}
 use Rattle.lines.proofs.write.put_bodies.Goals as goal
 
-pub loop-i-init : goal.loop-i-init
-loop-i-init c = (refl, c.requires.0, parted-start _ _ _ _ c.requires.1)
+pub loop-p-init : goal.loop-p-init
+loop-p-init c = along-start _ _ _ c.requires.1
 
-pub offset_bounds-order-i : goal.offset_bounds-order-i
-offset_bounds-order-i c = let h : c.loop-i.i < length c.args.order.now = omega arith in
-    search rules
+pub put_body-requires : goal.put_body-requires
+put_body-requires c = (omega (arith, c.requires.0.below c.loop-p.p-index (omega arith)), along-room c.loop-p.invariant _ c.from.ensures (omega arith))
 
-pub put_body-to-requires : goal.put_body-to-requires
-put_body-to-requires c = let l = c.loop-i in
-    (omega (arith, l.invariant.1.below l.i (omega arith)), parted-room l.invariant.2 _ c.half.ensures.value (omega arith))
-
-pub loop-i-preserved : goal.loop-i-preserved
-loop-i-preserved c = let l = c.loop-i in
-    (refl, l.invariant.1, parted_more l.invariant.2 _ _ _ c.half.ensures.value (omega arith) c.put_body-to.ensures)
-
-pub shape_of-out : goal.shape_of-out
-shape_of-out c = parted_size c.loop-i.invariant.2
+pub loop-p-preserved : goal.loop-p-preserved
+loop-p-preserved c = along_more c.loop-p.invariant _ _ c.from.ensures (omega arith) c.put_body.ensures
 
 pub returns : goal.returns
-returns c = parted_end c.loop-i.invariant.2 (omega arith)
+returns c = along_end c.loop-p.invariant (omega arith)

@@ -1,20 +1,14 @@
 -- : the notes of the text are the rules' and then the questions'.
-use Prim.Native.Nat.{ℕ}
-use mathlib.Core.Path.{◌∙◌, ap}
-use native.Mathlib.Omega.{arith}
-use lib.ListN.{length, length-replicate}
 use Rattle.writing.proofs.Wrote.{put_as}
 use Rattle.lines.proofs.Joined.{order-taken, order-counted, put-within}
 use Rattle.lines.proofs.Whole.{readable-few, readable_parted, readable-bytes}
-use Rattle.lines.specs.Noting.{most_notes}
 use Rattle.lines.proofs.write.put_job.Goals as goal
 
 pub note_numbers-n-requires : goal.note_numbers-n-requires
-note_numbers-n-requires c = let n = ap length c.no_notes-notes.ensures ∙ length-replicate {A = ℕ} most_notes 0 in omega (arith, readable-few _ _ _ c.requires)
+note_numbers-n-requires c = readable-few _ _ _ c.requires
 
 pub slice_bounds-notes-end : goal.slice_bounds-notes-end
-slice_bounds-notes-end c = let n = ap length c.no_notes-notes.ensures ∙ length-replicate {A = ℕ} most_notes 0 in
-    put-within _ _ _ _ (omega (arith, readable-few _ _ _ c.requires)) c.note_numbers-n.ensures
+slice_bounds-notes-end c = put-within _ _ _ _ (readable-few _ _ _ c.requires) c.note_numbers-n.ensures
 
 pub slice_bounds-put_parts-end : goal.slice_bounds-put_parts-end
 slice_bounds-put_parts-end c = order-counted _ _ _ _ c.note_numbers-n.ensures

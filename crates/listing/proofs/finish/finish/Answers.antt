@@ -1,13 +1,18 @@
 -- The claims fit the arrays.
-use mathlib.Core.Path.{sym}
+use mathlib.Core.Path.{refl}
 use native.Mathlib.Omega.{arith}
-use Rattle.base.proofs.Zeros.{front_long}
 use Rattle.job.specs.Job.{most_claims}
-use Rattle.turn.proofs.Rooms.{front-room}
+use Rattle.base.proofs.Zeros.{front_zeros}
+use Rattle.table.proofs.Sizes.{sizes}
+use Rattle.turn.proofs.Rooms.{front-claims}
 use Rattle.listing.proofs.finish.finish.Goals as goal
 
-pub slice_bounds-finish_in-end : goal.slice_bounds-finish_in-end
-slice_bounds-finish_in-end c = sym (front_long most_claims c.no_numbers-place.ensures (omega (arith, c.claim_count-claims.ensures.value, c.requires.ready.job.sized.claims_most)))
+pub new-set-requires : goal.new-set-requires
+new-set-requires c = record { zeros = front_zeros most_claims refl (omega (arith, c.claim_count-claims.ensures.value, c.requires.ready.job.sized.claims_most)) }
 
-pub finish_in-requires : goal.finish_in-requires
-finish_in-requires c = record { ready = c.requires.ready; listed = c.requires.listed; by_index = c.requires.by_index; room = front-room most_claims c.no_numbers-place.ensures (omega (arith, c.claim_count-claims.ensures.value, c.requires.ready.job.sized.claims_most)) c.claim_count-claims.ensures.value c.no_numbers-members.ensures }
+pub finish_in-requires-clause-keeps : goal.finish_in-requires-clause-keeps
+finish_in-requires-clause-keeps c = let s = c.args.job.now in
+    let n = c.claim_count-claims.ensures.value in
+    let most = c.requires.ready.job.sized.claims_most in
+    let e = front-claims s n most_claims (omega (arith, n, most)) in
+    c.new-set.ensures.keeps _ _ (omega (arith, (sizes s).claims_are, most)) e (omega (arith, e))

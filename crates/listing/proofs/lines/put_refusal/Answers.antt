@@ -1,19 +1,21 @@
 use native.Mathlib.Omega.{arith}
 use Rattle.writing.proofs.Decimal.{length-room}
-use Rattle.listing.proofs.Runs.{put-refusal-line}
+use Rattle.listing.proofs.Runs.{least, refusal_written}
 use Rattle.listing.proofs.lines.put_refusal.Goals as goal
 
-pub put_number-b-requires : goal.put_number-b-requires
-put_number-b-requires c = omega (arith, length-room c.args.number (omega arith))
-
-pub put_byte-c-requires : goal.put_byte-c-requires
-put_byte-c-requires c = omega (arith, length-room c.args.number (omega arith))
-
-pub put_number-d-requires : goal.put_number-d-requires
-put_number-d-requires c = omega (arith, length-room c.args.number (omega arith), length-room c.args.place (omega arith))
+pub put_number-requires : goal.put_number-requires
+put_number-requires c = omega (arith, length-room c.args.number (omega arith), least c.put_bytes.ensures)
 
 pub put_byte-requires : goal.put_byte-requires
-put_byte-requires c = omega (arith, length-room c.args.number (omega arith), length-room c.args.place (omega arith))
+put_byte-requires c = omega (arith, length-room c.args.number (omega arith), least c.put_bytes.ensures, least c.put_number.ensures)
+
+pub put_number-requires-2 : goal.put_number-requires-2
+put_number-requires-2 c =
+    omega (arith, length-room c.args.number (omega arith), length-room c.args.place (omega arith), least c.put_bytes.ensures, least c.put_number.ensures, least c.put_byte.ensures)
+
+pub put_byte-requires-2 : goal.put_byte-requires-2
+put_byte-requires-2 c =
+    omega (arith, length-room c.args.number (omega arith), length-room c.args.place (omega arith), least c.put_bytes.ensures, least c.put_number.ensures, least c.put_byte.ensures, least c.put_number-2.ensures)
 
 pub returns : goal.returns
-returns c = put-refusal-line (omega arith) (omega arith) (omega arith) c.put_refused-a.ensures c.put_number-b.ensures c.put_byte-c.ensures c.put_number-d.ensures c.put_byte.ensures
+returns c = refusal_written c.requires (omega arith) (omega arith) c.put_bytes.ensures c.put_number.ensures c.put_byte.ensures c.put_number-2.ensures c.put_byte-2.ensures

@@ -1,23 +1,23 @@
 use mathlib.Core.Path.{refl, ◌∙◌}
-use Prim.Native.Nat.{◌+◌, ◌-◌}
 use native.Mathlib.Omega.{arith}
-use lib.ListN.{length}
-use Rattle.makejob.proofs.Numbers.{past-start, past_here, past_more, past_end}
+use Rattle.makejob.specs.Pieces.{first_past}
+use Rattle.makejob.proofs.Numbers.{past_here, past_more, past_none, less_behind}
 use Rattle.makejob.proofs.digits.first_past.Goals as goal
 
-pub loop-init : goal.loop-init
-loop-init c = (refl, omega arith, omega arith, omega arith, past-start _ _ (omega arith) c.next-number.ensures.value)
+pub loop-rest-init : goal.loop-rest-init
+unfolding first_past
+loop-rest-init c = refl
 
-pub returns-then-bound-value : goal.returns-then-bound-value
-returns-then-bound-value c = let l = c.loop in
-    let a = c.args in record { value = past_here a.line.now a.bound l.number _ c.value.ensures.value (omega arith) ∙ l.invariant.4; start_le_end = omega arith }
+pub returns-then-is_past : goal.returns-then-is_past
+returns-then-is_past c = let l = c.loop-rest in
+    past_here l.rest.now c.args.bound c.next.ensures.digits c.is_past.ensures c.if-is_past.true (grind arith) ∙ l.invariant
 
-pub loop-preserved : goal.loop-preserved
-loop-preserved c = let l = c.loop in
-    let a = c.args in
-    let more = past_more a.line.now a.bound l.number (length a.line.now - l.counter) (length a.line.now - (l.counter + 1)) (omega arith) c.value.ensures.value (omega arith) c.next-number-in-loop.ensures.value in
-    (omega arith, omega arith, omega arith, omega arith, more ∙ l.invariant.4)
+pub loop-rest-smaller : goal.loop-rest-smaller
+loop-rest-smaller c = less_behind c.loop-rest.rest.now _ (grind arith) c.next.ensures.behind
+
+pub loop-rest-preserved : goal.loop-rest-preserved
+loop-rest-preserved c = let l = c.loop-rest in
+    past_more l.rest.now c.args.bound c.next.ensures.digits c.is_past.ensures c.if-is_past.false (grind arith) c.next.ensures.behind ∙ l.invariant
 
 pub returns : goal.returns
-returns c = let l = c.loop in
-    let a = c.args in record { value = past_end a.line.now a.bound l.number _ (omega arith) ∙ l.invariant.4; start_le_end = omega arith }
+returns c = past_none c.loop-rest.rest.now c.args.bound (grind arith) ∙ c.loop-rest.invariant

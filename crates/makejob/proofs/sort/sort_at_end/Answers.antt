@@ -1,22 +1,21 @@
-use mathlib.Core.Path.{sym, ◌∙◌}
 use native.Mathlib.Omega.{arith}
-use Rattle.base.proofs.Choose.{pick_true, pick-false}
-use Rattle.base.proofs.Compare.{under-yes, under-no}
+use Rattle.base.specs.Choose.{pick}
+use Rattle.base.specs.Compare.{under}
 use Rattle.makejob.specs.Faults.{sort_at_end}
 use Rattle.makejob.proofs.sort.sort_at_end.Goals as goal
 
-pub returns-then-whole : goal.returns-then-whole
-unfolding sort_at_end
-returns-then-whole c = sym (pick_true _ _ _ (under-yes _ _ (omega arith)) ∙ pick_true _ _ _ c.if-whole.true)
+pub returns-in-true-default-true : goal.returns-in-true-default-true
+unfolding sort_at_end under pick
+returns-in-true-default-true c = grind arith
 
-pub returns-then-line-gt0 : goal.returns-then-line-gt0
-unfolding sort_at_end
-returns-then-line-gt0 c = sym (pick_true _ _ _ (under-yes _ _ (omega arith)) ∙ pick-false _ _ _ c.if-whole.false)
+pub returns-in-true-default-false : goal.returns-in-true-default-false
+unfolding sort_at_end under pick
+returns-in-true-default-false c = grind arith
 
-pub returns-then-ended : goal.returns-then-ended
-unfolding sort_at_end
-returns-then-ended c = sym (pick-false _ _ _ (under-no _ _ (omega arith)) ∙ pick_true _ _ _ c.if-ended.true)
+pub returns-in-false-true-default : goal.returns-in-false-true-default
+unfolding sort_at_end under pick
+returns-in-false-true-default c = grind arith
 
-pub returns : goal.returns
-unfolding sort_at_end
-returns c = sym (pick-false _ _ _ (under-no _ _ (omega arith)) ∙ pick-false _ _ _ c.if-ended.false)
+pub returns-in-false-false-default : goal.returns-in-false-false-default
+unfolding sort_at_end under pick
+returns-in-false-false-default c = grind arith

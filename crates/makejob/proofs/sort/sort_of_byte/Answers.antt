@@ -1,21 +1,26 @@
-use mathlib.Core.Path.{sym, ◌∙◌}
-use borrow.Author.Tests.{eq-eqb, ne_eqb}
-use Rattle.base.proofs.Choose.{pick_true, pick-false}
+use native.Mathlib.Omega.{arith}
+use Rattle.base.specs.Choose.{pick}
+use Rattle.base.specs.Compare.{under}
+use Rattle.lines.specs.Grammar.{is_digit}
 use Rattle.makejob.specs.Faults.{sort_of_byte}
 use Rattle.makejob.proofs.sort.sort_of_byte.Goals as goal
 
-pub returns-then-b-eq13 : goal.returns-then-b-eq13
-unfolding sort_of_byte
-returns-then-b-eq13 c = sym (pick_true _ _ _ (eq-eqb _ _ c.if-b-eq13.true))
+pub returns-in-13 : goal.returns-in-13
+unfolding sort_of_byte is_digit under pick
+returns-in-13 c = grind arith
 
-pub returns-then-before-ne48 : goal.returns-then-before-ne48
-unfolding sort_of_byte
-returns-then-before-ne48 c = sym (pick-false _ _ _ (ne_eqb _ _ c.if-b-eq13.false) ∙ pick-false _ _ _ (rw (ne_eqb _ _ c.if-before-ne48.true)))
+pub returns-in-48-to-57 : goal.returns-in-48-to-57
+unfolding sort_of_byte is_digit under pick
+returns-in-48-to-57 c = grind arith
 
-pub returns-then-is_digit : goal.returns-then-is_digit
-unfolding sort_of_byte
-returns-then-is_digit c = sym (pick-false _ _ _ (ne_eqb _ _ c.if-b-eq13.false) ∙ pick_true _ _ _ (rw (eq-eqb _ _ c.if-before-ne48.false, sym c.is_digit.ensures ∙ c.if-is_digit.true)))
+pub returns-in_default : goal.returns-in_default
+unfolding sort_of_byte is_digit under pick
+returns-in_default c = grind arith
 
-pub returns : goal.returns
-unfolding sort_of_byte
-returns c = sym (pick-false _ _ _ (ne_eqb _ _ c.if-b-eq13.false) ∙ pick-false _ _ _ (rw (eq-eqb _ _ c.if-before-ne48.false, sym c.is_digit.ensures ∙ c.if-is_digit.false)))
+pub returns-in_default-2 : goal.returns-in_default-2
+unfolding sort_of_byte is_digit under pick
+returns-in_default-2 c = grind arith
+
+pub returns-in_default-3 : goal.returns-in_default-3
+unfolding sort_of_byte is_digit under pick
+returns-in_default-3 c = grind arith

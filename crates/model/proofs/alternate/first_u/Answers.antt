@@ -2,11 +2,12 @@ use Rattle.model.proofs.Starting.{first-growing, first-upper}
 use Rattle.model.proofs.alternate.first_u.Goals as goal
 
 pub rise-requires : goal.rise-requires
-rise-requires c = let start = c.requires in
-    let blank = start.placed.1 in
-    let begun = c.begin-top.ensures in record { well_formed = start.well_formed; placed = start.placed.0; ready = (first-growing _ start.well_formed _ _ _ blank.counts blank.empty blank.size blank.room _ _ _ begun, begun.ready) }
+rise-requires c = let blank = c.requires.blank_u in
+    record { ready = (first-growing _ c.args.tables.now.accepted _ _ _ blank.counts blank.empty blank.size blank.room _ _ _ c.begin.ensures, c.begin.ensures.ready) }
 
-pub returns : goal.returns
-returns c = let start = c.requires in
-    let blank = start.placed.1 in
-    first-upper _ start.well_formed _ _ _ blank.counts blank.empty blank.size blank.room _ _ _ c.begin-top.ensures _ _ _ _ c.rise.ensures
+pub returns-clause-upper : goal.returns-clause-upper
+returns-clause-upper c = let blank = c.requires.blank_u in
+    first-upper _ c.args.tables.now.accepted _ _ _ blank.counts blank.empty blank.size blank.room _ _ _ c.begin.ensures _ _ _ _ c.rise.ensures
+
+pub returns-clause-room : goal.returns-clause-room
+returns-clause-room c = c.rise.ensures.carried.some.1.fits.queue.long

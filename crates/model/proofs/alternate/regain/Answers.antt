@@ -2,16 +2,18 @@ use Rattle.model.proofs.Shrinking.{fell-growing, fell-ready, fell-upper, fell-ke
 use Rattle.model.proofs.alternate.regain.Goals as goal
 
 pub rise-requires : goal.rise-requires
-rise-requires c = let r = c.recover-again in
-    let start = c.requires in
-    let fell = start.fell.1 in
-    let long = start.placed.2 in record { well_formed = start.well_formed; placed = start.placed.0; ready = (fell-growing _ _ start.well_formed _ _ _ _ _ fell _ long _ _ _ r.ensures, fell-ready _ _ start.well_formed _ _ _ _ _ fell _ long _ _ _ r.ensures) }
+rise-requires c = let r = c.recover.ensures in
+    let fell = c.requires.fell.1 in
+    let long = c.requires.room in
+    record { ready = (fell-growing _ _ c.args.tables.now.accepted _ _ _ _ _ fell _ long _ _ _ r, fell-ready _ _ c.args.tables.now.accepted _ _ _ _ _ fell _ long _ _ _ r) }
 
-pub returns : goal.returns
-returns c = let r = c.recover-again in
-    let start = c.requires in
-    let long = start.placed.2 in
+pub returns-clause-regained : goal.returns-clause-regained
+returns-clause-regained c = let r = c.recover.ensures in
+    let long = c.requires.room in
     record {
-      upper = λ a fell. fell-upper _ _ start.well_formed _ _ _ _ _ fell _ long _ _ _ r.ensures _ _ _ _ c.rise.ensures;
-      keeps = fell-keeps _ _ start.well_formed _ _ _ _ _ start.fell.1 _ long _ _ _ r.ensures _ _ _ _ c.rise.ensures;
+      upper = λ a fell. fell-upper _ _ c.args.tables.now.accepted _ _ _ _ _ fell _ long _ _ _ r _ _ _ _ c.rise.ensures;
+      keeps = fell-keeps _ _ c.args.tables.now.accepted _ _ _ _ _ c.requires.fell.1 _ long _ _ _ r _ _ _ _ c.rise.ensures;
     }
+
+pub returns-clause-room : goal.returns-clause-room
+returns-clause-room c = c.rise.ensures.carried.some.1.fits.queue.long

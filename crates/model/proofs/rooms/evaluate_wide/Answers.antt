@@ -1,4 +1,5 @@
 use Rattle.model.proofs.rooms.evaluate_wide.Goals as goal
 
-pub evaluate_middle-requires : goal.evaluate_middle-requires
-evaluate_middle-requires c = let start = c.requires in record { well_formed = start.well_formed; within = (c.fits.ensures c.if-fits.true, start.job_in_bounds) }
+pub evaluate_sized-requires-else-fits-clause-within : goal.evaluate_sized-requires-else-fits-clause-within
+evaluate_sized-requires-else-fits-clause-within c = let s = c.fits.ensures.accepted.sized in
+    (record { claims_few = s.claims_most; rules_few = s.rules_most; literals_few = s.literals_most }, c.requires.room)

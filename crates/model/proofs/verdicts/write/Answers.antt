@@ -1,18 +1,18 @@
-use mathlib.Core.Path.{refl}
+use mathlib.Core.Path.{◌∙◌, ap}
 use native.Mathlib.Omega.{arith}
-use lib.ListN.{length-set}
-use Rattle.base.proofs.Written.{written_start, written-more, written-whole}
+use lib.ListN.{length, length-take}
+use Rattle.semantics.specs.Model.{byte_of}
+use Rattle.base.proofs.Written.{written_start, written-more}
+use Rattle.model.specs.Output.{judged_byte}
+use Rattle.model.proofs.Written.{written-front}
 use Rattle.model.proofs.verdicts.write.Goals as goal
 
 pub loop-c-init : goal.loop-c-init
-loop-c-init c = (refl, omega arith, c.requires, written_start _ _)
+loop-c-init c = written_start _ _
 
 pub loop-c-preserved : goal.loop-c-preserved
-loop-c-preserved c = let l = c.loop-c in
-    (simp length-set l.invariant.0, omega arith, l.invariant.2, written-more _ _ _ _ _ l.invariant.3 c.byte_of.ensures (omega arith))
-
-pub shape_of-out : goal.shape_of-out
-shape_of-out c = c.loop-c.invariant.0
+unfolding judged_byte
+loop-c-preserved c = written-more _ _ _ _ _ c.loop-c.invariant (c.into.ensures ∙ ap byte_of c.verdict_of.ensures) (omega arith)
 
 pub returns : goal.returns
-returns c = written-whole _ _ _ _ _ (omega arith) c.loop-c.invariant.3
+returns c = written-front _ _ _ _ _ c.requires (omega (arith, length-take (length c.args.k.now) c.args.out.now)) c.loop-c.invariant

@@ -1,15 +1,12 @@
 -- : the literals, and one more or none.
-use Rattle.parts.proofs.LiteralsPut.{own-fits, own_room, own_put, own_none}
+use Rattle.parts.proofs.LiteralsPut.{own-fits, own_room, own_put}
 use Rattle.parts.proofs.bodies.put_body.Goals as goal
 
-pub put_within-to-requires : goal.put_within-to-requires
-put_within-to-requires c = let p = c.requires in record { beside = (p.beside.0, p.beside.1, p.beside.2); end_in_bounds = own-fits c.args.own c.args.i _ c.args.out.now _ p.end_in_bounds }
+pub put_within-requires-clause-room : goal.put_within-requires-clause-room
+put_within-requires-clause-room c = own-fits c.args.own _ c.args.out.now c.requires.room
 
 pub put_half-requires : goal.put_half-requires
-put_half-requires c = own_room c.args.own c.args.i _ _ _ c.requires.end_in_bounds c.put_within-to.ensures c.if-own.true
+put_half-requires c = own_room c.args.own _ _ c.requires.room c.put_within.ensures c.in-Some.is
 
-pub returns-then-own : goal.returns-then-own
-returns-then-own c = own_put c.args.own c.args.i _ _ _ c.requires.end_in_bounds c.put_within-to.ensures c.if-own.true c.put_half.ensures
-
-pub returns : goal.returns
-returns c = own_none c.args.own c.args.i _ _ _ c.requires.end_in_bounds c.put_within-to.ensures c.if-own.false
+pub returns-in-Some : goal.returns-in-Some
+returns-in-Some c = own_put c.args.own _ _ c.requires.room c.put_within.ensures c.in-Some.is c.put_half.ensures

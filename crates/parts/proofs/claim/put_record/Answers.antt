@@ -1,7 +1,10 @@
 -- : one field after the other.
 use native.Mathlib.Omega.{arith}
-use Rattle.writing.proofs.Wrote.{put_put}
+use Rattle.writing.proofs.Writing.{writes-room, writes-writes}
 use Rattle.parts.proofs.claim.put_record.Goals as goal
 
+pub put_half-requires-2 : goal.put_half-requires-2
+put_half-requires-2 c = writes-room _ _ _ (omega arith) c.put_half.ensures 2 (omega arith)
+
 pub returns : goal.returns
-returns c = put_put _ _ _ _ _ (omega arith) c.put_half-a.ensures _ _ _ c.put_half.ensures
+returns c = writes-writes _ _ _ (omega arith) c.put_half.ensures _ _ c.put_half-2.ensures

@@ -1,20 +1,27 @@
 -- : records, literals, and the header before them.
+use mathlib.Core.Path.{◌≡◌}
 use native.Mathlib.Omega.{arith}
-use Rattle.job.proofs.Accepted.{header-room}
 use Rattle.parts.proofs.PartPut.{records_fit, literals_fit, header-small, header-fits, part_put}
 use Rattle.parts.proofs.write.put_part.Goals as goal
+use Rattle.parts.proofs.write.put_part.Goals.{After-new}
 
-pub rule_count-rules-requires : goal.rule_count-rules-requires
-rule_count-rules-requires c = header-room _ c.requires.lent.job
+pub put_claims-requires : goal.put_claims-requires
+put_claims-requires c = records_fit c.args.part.now.job.now c.args.part.now.table.now c.args.part.now.place.now c.args.part.now.members.now c.args.out.now c.requires
 
-pub put_claims-literals_at-requires : goal.put_claims-literals_at-requires
-put_claims-literals_at-requires c = record { lent = (c.requires.lent, c.rule_count-rules.ensures.value); members_in_bounds = records_fit c.args.job.now c.args.table.now c.args.place.now c.args.members.now c.args.out.now c.requires.members_in_bounds }
+pub put_claims-requires-2 : goal.put_claims-requires-2
+put_claims-requires-2 c = literals_fit _ _ _ _ _ c.requires c.put_claims.ensures.put
 
-pub put_claims-end-requires : goal.put_claims-end-requires
-put_claims-end-requires c = record { lent = (c.requires.lent, c.rule_count-rules.ensures.value); members_in_bounds = literals_fit _ _ _ _ _ c.requires.members_in_bounds c.put_claims-literals_at.ensures }
+pub put_header-requires-clause-size : goal.put_header-requires-clause-size
+put_header-requires-clause-size c = omega (arith, header-small _ _ _ _ _ c.requires c.put_claims.ensures.put c.put_claims-2.ensures.put)
 
-pub put_header-requires : goal.put_header-requires
-put_header-requires c = record { questions_bound = omega (arith, header-small _ _ _ _ _ c.requires.members_in_bounds c.put_claims-literals_at.ensures c.put_claims-end.ensures); in_bounds = header-fits _ _ _ _ _ c.requires.members_in_bounds c.put_claims-literals_at.ensures c.put_claims-end.ensures }
+-- the new writer's buffer is as the other left it
+front : (c : After-new) → c.new.result.buf.now ≡ c.put_claims-2.new.out.buf.now
+front c = grind arith
+
+pub put_header-requires-clause-room : goal.put_header-requires-clause-room
+put_header-requires-clause-room c = header-fits _ _ _ _ _ c.requires c.put_claims.ensures.put c.put_claims-2.ensures.put c.new.result (front (goal.at.put_header-requires-clause-room c).After-new) c.new.ensures.at
 
 pub returns : goal.returns
-returns c = part_put _ _ _ _ _ c.requires.members_in_bounds c.put_claims-literals_at.ensures c.put_claims-end.ensures c.put_header.ensures
+returns c =
+    let h = part_put _ _ _ _ _ c.requires c.put_claims.ensures.put c.put_claims-2.ensures.put (front (goal.at.returns c).After-new) c.new.ensures.at c.put_header.ensures in
+    grind (arith, h)

@@ -1,31 +1,32 @@
-use mathlib.Core.Path.{refl}
-use native.Mathlib.Omega.{arith}
-use Rattle.recording.proofs.Naming.{naming_none, naming_size, naming_more, naming_all}
+use Rattle.std.proofs.Common.{rules, ℕ}
+use Rattle.std.specs.declared.slice.ChunksExact.{ChunksExact}
+use mathlib.Core.Path.{sym, ◌∙◌, ap}
+use Rattle.recording.proofs.Naming.{naming_none, naming-room, naming_more, naming_all, naming_few}
 use Rattle.recording.proofs.named.put_schedule.Goals as goal
 
-pub loop-i-init : goal.loop-i-init
-loop-i-init c = naming_none _ _
-
-pub overflow_mul-i : goal.overflow_mul-i
-overflow_mul-i c = omega (arith, c.loop-i-test.true, c.well_formed)
-
-pub bounds-log-i : goal.bounds-log-i
-bounds-log-i c = omega (arith, c.loop-i-test.true)
+pub loop-pair-init : goal.loop-pair-init
+loop-pair-init c = let e = c.into_iter-pair-iterator.ensures.into_iter_gives in
+    let p = c.chunks_exact-pair-items.ensures in
+    naming_none _ _ (ap (λ (s : ChunksExact ℕ). s.rest.now) e ∙ p.rest) (ap (λ (s : ChunksExact ℕ). s.size) e ∙ p.size)
 
 pub put_byte-requires : goal.put_byte-requires
-put_byte-requires c = omega (arith, c.loop-i-test.true, c.requires, naming_size _ _ c.requires c.loop-i.invariant)
+put_byte-requires c = let n = c.new-schedule.ensures in
+    let s = c.in-Some.ensures.steps.1 in
+    naming-room _ _ c.requires n.bytes n.at c.loop-pair.invariant _ _ s.0 s.1
 
-pub overflow_step-i : goal.overflow_step-i
-overflow_step-i c = omega (arith, c.loop-i-test.true, c.well_formed)
+pub loop-pair-preserved : goal.loop-pair-preserved
+loop-pair-preserved c = let n = c.new-schedule.ensures in
+    let s = c.in-Some.ensures.steps in
+    naming_more _ _ c.requires n.bytes n.at c.loop-pair.invariant _ _ s.1.0 s.1.1 s.0 c.put_byte.ensures
 
-pub loop-i-smaller : goal.loop-i-smaller
-loop-i-smaller c = omega (arith, c.loop-i-test.true)
+pub returns-clause-put : goal.returns-clause-put
+returns-clause-put c = let n = c.new-schedule.ensures in
+    let same = sym (c.loop-pair.invariant.same_buffer ∙ n.same_buffer) in
+    let all = naming_all _ _ c.requires n.bytes n.at c.loop-pair.invariant c.in-None.ensures.steps.1.0 in
+    search rules
 
-pub loop-i-preserved : goal.loop-i-preserved
-loop-i-preserved c = naming_more _ _ c.requires c.loop-i.invariant c.loop-i-test.true c.put_byte.ensures
-
-pub shape_of-out : goal.shape_of-out
-shape_of-out c = naming_size _ _ c.requires c.loop-i.invariant
-
-pub returns : goal.returns
-returns c = record { put = naming_all _ _ c.requires c.loop-i.invariant refl c.loop-i-test.false; upper_bound = omega (arith, c.requires, naming_size _ _ c.requires c.loop-i.invariant) }
+pub returns-clause-upper_bound : goal.returns-clause-upper_bound
+returns-clause-upper_bound c = let n = c.new-schedule.ensures in
+    let same = sym (c.loop-pair.invariant.same_buffer ∙ n.same_buffer) in
+    let few = naming_few _ _ c.requires n.bytes n.at c.loop-pair.invariant in
+    search rules

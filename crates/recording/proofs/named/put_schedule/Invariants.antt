@@ -1,10 +1,6 @@
--- The loop's invariant: the first i workers are written.
-use Prim.Native.Nat.{◌-◌}
+-- The loop's invariant: the workers of the pairs so far are written.
 use Rattle.recording.proofs.Naming.{Naming}
 use Rattle.recording.proofs.named.put_schedule.Given as goal
 
-abbrev pub invariant-loop-i : goal.invariant-loop-i
-invariant-loop-i l = Naming l.log l.initial.out l.i l.out
-
-abbrev pub decreases-loop-i : goal.decreases-loop-i
-decreases-loop-i l = l.pairs - l.i
+abbrev pub invariant-loop-pair : goal.invariant-loop-pair
+invariant-loop-pair l = Naming l.log l.initial.schedule l.pair-iterator.rest.now l.pair-iterator.size l.schedule

@@ -15,9 +15,6 @@ pub number_at-number-requires : goal.number_at-number-requires
 unfolding job_of
 number_at-number-requires c = omega arith
 
-pub overflow_sub-literals : goal.overflow_sub-literals
-overflow_sub-literals c = (counted _ _ c.args.c c.requires.well_formed c.requires.index c.requires.c_bound c.over-all.ensures).0
-
 pub returns : goal.returns
 unfolding job_of
-returns c = fitting _ _ c.args.c c.mark_at-mark.ensures.value c.cursor_at-cursor.ensures.value c.number_at-number.ensures.value c.worker_count.ensures.value (counted _ _ c.args.c c.requires.well_formed c.requires.index c.requires.c_bound c.over-all.ensures).1 c.claim_count.ensures.value
+returns c = fitting _ _ c.args.c c.mark_at-mark.ensures.value c.cursor_at-cursor.ensures.value c.number_at-number.ensures.value c.worker_count.ensures.value (counted _ _ c.args.c c.cursor-all.ensures.accepted c.requires.index c.requires.claim c.cursor-all.ensures.value).1 c.claim_count.ensures.value

@@ -11,7 +11,7 @@ use Rattle.table.proofs.checks.count_marks.Goals as goal
 use Rattle.table.proofs.checks.count_marks.Goals.{then-mark_at-ne0, else-mark_at-ne0}
 
 pub loop-c-init : goal.loop-c-init
-loop-c-init c = (omega arith, sym (count_none _))
+loop-c-init c = sym (count_none _)
 
 pub mark_at-requires : goal.mark_at-requires
 unfolding job_of
@@ -23,15 +23,13 @@ overflow_add-n c = omega (arith, count_le (λ d. not (fresh c.args.table.now d))
 pub loop-c-preserved : goal.loop-c-preserved
 loop-c-preserved c = let t = c.args.table.now in
     let l = c.loop-c in
-    let e = c.mark_at.ensures.value in (
-      omega arith,
-      elim c.if-mark_at-ne0.branch [
-        | then-mark_at-ne0 w ↦ omega (arith, count_yes (λ d. not (fresh t d)) l.c (marked-yes t l.c e w.if-mark_at-ne0.true))
-        | else-mark_at-ne0 w ↦ omega (arith, count_no (λ d. not (fresh t d)) l.c (marked-no t l.c e w.if-mark_at-ne0.false))
-      ],
-    )
+    let e = c.mark_at.ensures.value in
+    elim c.if-mark_at-ne0.branch [
+      | then-mark_at-ne0 w ↦ omega (arith, count_yes (λ d. not (fresh t d)) l.c (marked-yes t l.c e w.if-mark_at-ne0.true))
+      | else-mark_at-ne0 w ↦ omega (arith, count_no (λ d. not (fresh t d)) l.c (marked-no t l.c e w.if-mark_at-ne0.false))
+    ]
 
 pub returns : goal.returns
 unfolding marked job_of
 returns c = let e : c.loop-c.c ≡ claims_of c.args.job.now = omega arith in
-    c.loop-c.invariant.1 ∙ ap (count (λ d. not (fresh c.args.table.now d))) e
+    c.loop-c.invariant ∙ ap (count (λ d. not (fresh c.args.table.now d))) e

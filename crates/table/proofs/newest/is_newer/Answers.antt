@@ -1,34 +1,19 @@
-use Prim.Native.Nat.{ℕ, ◌<◌, ◌≤◌}
-use mathlib.Core.Path.{◌≡◌, sym}
-use mathlib.Core.Logic.{by_cases}
-use mathlib.Core.Bool.{◌||◌, and-true, and-false, or-false}
-use mathlib.Core.List.{List}
+use Prim.Native.Nat.{ℕ}
+use mathlib.Core.Path.{◌≡◌, ◌∙◌, ap₂}
+use mathlib.Core.Bool.{◌||◌, ◌&&◌}
 use native.Mathlib.Omega.{arith}
-use native.Mathlib.Decide.{dec_lt, ℕ_discrete}
-use borrow.Author.Tests.{eq-eqb, ne_eqb, lt-ltb, le-ltb, le-leb, lt-leb}
-use lib.Dec.{leb, ltb, eqb}
-use Rattle.table.specs.Layout.{number}
+use Rattle.std.specs.Ordering.{nat_cmp, partial_ordering_then, is_some_and, is_lt}
+use lib.Dec.{ltb, eqb}
+use Rattle.std.specs.Prelude.{Some}
+use Rattle.std.proofs.lemmas.Bool.Decides.{nat_tests}
 use Rattle.table.specs.Newest.{is_newer}
 use Rattle.table.proofs.newest.is_newer.Goals as goal
 
--- at most: less, or the same
-le_split : (m n : ℕ) → leb m n ≡ (ltb m n || eqb m n)
-le_split m n =
-    by_cases (dec_lt m n) (λ l. rw (le-leb m n (omega arith), lt-ltb m n l))
-    (λ l. by_cases (ℕ_discrete m n) (λ e. rw (le-leb m n (omega arith), le-ltb m n (omega arith), eq-eqb m n e)) (λ d. rw (lt-leb m n (omega arith), le-ltb m n (omega arith), ne_eqb m n d)))
-
--- the two numbers that were read
-module _ (t : List ℕ) (c d : ℕ) {m n : ℕ} (last : m ≡ number t d) (now : n ≡ number t c) where
-  above : d < c → leb m n ≡ is_newer t c d
-  unfolding is_newer
-  above l = rw (← last, ← now, lt-ltb d c l, and-true (eqb m n)) (le_split m n)
-
-  below : c ≤ d → ltb m n ≡ is_newer t c d
-  unfolding is_newer
-  below l = rw (← last, ← now, le-ltb d c l, and-false (eqb m n)) (sym (or-false (ltb m n)))
-
-pub returns-then-d-c : goal.returns-then-d-c
-returns-then-d-c c = above _ _ _ c.number_at-last.ensures.value c.number_at-number.ensures.value c.if-d-c.true
+-- a pair of numbers is below another where its first number is, or that is the same and its second is
+below : (m n d c : ℕ) → is_some_and is_lt (partial_ordering_then (Some (nat_cmp m n)) (Some (nat_cmp d c))) ≡ (ltb m n || (eqb m n && ltb d c))
+below m n d c = grind (arith, nat_tests)
 
 pub returns : goal.returns
-returns c = below _ _ _ c.number_at-last.ensures.value c.number_at-number.ensures.value c.if-d-c.false
+unfolding is_newer
+returns c = let a = c.args in
+    c.lt.ensures ∙ (below c.number_at.result c.number_at-2.result a.d a.c ∙ ap₂ (λ (x y : ℕ). ltb x y || (eqb x y && ltb a.d a.c)) c.number_at.ensures.value c.number_at-2.ensures.value)

@@ -3,6 +3,3 @@ use Rattle.table.proofs.newest.newest_claims.Given as goal
 
 abbrev pub invariant-loop-c : goal.invariant-loop-c
 invariant-loop-c l = Sweeping l.table l.c l.claims l.found
-
-abbrev pub decreases-loop-c : goal.decreases-loop-c
-decreases-loop-c l = l.c

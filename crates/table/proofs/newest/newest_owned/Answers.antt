@@ -1,5 +1,5 @@
 use Prim.Native.Nat.{◌-◌}
-use Rattle.table.proofs.Searching.{owned-yes, owned-no, swept_none, swept_more, swept_same, swept_all}
+use Rattle.table.proofs.Searching.{owned-yes, owned-no, swept_none, swept_more, swept_same}
 use Rattle.table.proofs.newest.newest_owned.Goals as goal
 
 pub loop-c-init : goal.loop-c-init
@@ -16,6 +16,3 @@ loop-c-preserved c = let t = c.args.table.now in
     let w = c.args.w in
     let l = c.loop-c in
     swept_same l.invariant c.loop-c-test.true (owned-no t w (l.c - 1) c.mark_at.ensures.value c.if-mark_at-w.false)
-
-pub returns : goal.returns
-returns c = (swept_all c.loop-c.invariant c.loop-c-test.false, c.loop-c.invariant.most)

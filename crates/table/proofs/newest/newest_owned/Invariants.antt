@@ -4,6 +4,3 @@ use Rattle.table.proofs.newest.newest_owned.Given as goal
 
 abbrev pub invariant-loop-c : goal.invariant-loop-c
 invariant-loop-c l = Swept l.table (owned l.table l.w) l.c l.claims l.best
-
-abbrev pub decreases-loop-c : goal.decreases-loop-c
-decreases-loop-c l = l.c

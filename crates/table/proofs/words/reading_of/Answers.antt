@@ -1,18 +1,25 @@
 use mathlib.Core.Path.{sym}
-use Rattle.table.proofs.Shown.{reading-fresh, reading-true, reading-false, reading-undefined, reading_open}
+use native.Mathlib.Omega.{arith}
+use borrow.Author.Rules.{rules}
+use Rattle.table.proofs.Shown.{reading_open}
+use Rattle.table.specs.Reading.{reading_of}
 use Rattle.table.proofs.words.reading_of.Goals as goal
 
-pub returns-then-mark-eq0 : goal.returns-then-mark-eq0
-returns-then-mark-eq0 c = sym (reading-fresh _ c.if-mark-eq0.true)
+pub returns-in-0 : goal.returns-in-0
+unfolding reading_of
+returns-in-0 c = search rules
 
-pub returns-then-mark-eq-TRUE_MARK : goal.returns-then-mark-eq-TRUE_MARK
-returns-then-mark-eq-TRUE_MARK c = sym (reading-true _ c.if-mark-eq-TRUE_MARK.true)
+pub returns-in-256 : goal.returns-in-256
+unfolding reading_of
+returns-in-256 c = search rules
 
-pub returns-then-mark-eq-FALSE_MARK : goal.returns-then-mark-eq-FALSE_MARK
-returns-then-mark-eq-FALSE_MARK c = sym (reading-false _ c.if-mark-eq-FALSE_MARK.true)
+pub returns-in-257 : goal.returns-in-257
+unfolding reading_of
+returns-in-257 c = search rules
 
-pub returns-then-mark-eq-UNDEFINED_MARK : goal.returns-then-mark-eq-UNDEFINED_MARK
-returns-then-mark-eq-UNDEFINED_MARK c = sym (reading-undefined _ c.if-mark-eq-UNDEFINED_MARK.true)
+pub returns-in-258 : goal.returns-in-258
+unfolding reading_of
+returns-in-258 c = search rules
 
-pub returns : goal.returns
-returns c = sym (reading_open _ c.if-mark-eq0.false c.if-mark-eq-TRUE_MARK.false c.if-mark-eq-FALSE_MARK.false c.if-mark-eq-UNDEFINED_MARK.false)
+pub returns-in_default : goal.returns-in_default
+returns-in_default c = sym (reading_open _ (λ e. omega arith) (λ e. omega arith) (λ e. omega arith) (λ e. omega arith))

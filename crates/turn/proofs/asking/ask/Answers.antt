@@ -17,23 +17,19 @@ use Rattle.turn.proofs.Following.{room}
 use Rattle.turn.proofs.Places.{place-low}
 use Rattle.turn.proofs.ThirdWords.{kept_low}
 use Rattle.table.proofs.Sizes.{sizes}
-use Rattle.job.proofs.Accepted.{header-room}
-use Rattle.turn.specs.declared.Kept.{Kept}
-use Rattle.turn.specs.declared.Taken.{Taken}
-use Rattle.turn.specs.declared.Kind.TheVariants.{Opened}
 use Rattle.turn.proofs.Jobs.{job_ok}
-use Rattle.turn.proofs.KeptTurns.{done_as, await-keeps, answer_keeps, open_forgets}
+use Rattle.turn.proofs.KeptTurns.{await-keeps, answer_keeps, open_forgets}
 use Rattle.turn.proofs.asking.ask.Goals as goal
 use Rattle.turn.proofs.asking.ask.Goals.{After-question_at-question}
 
 pub question_at-question-requires : goal.question_at-question-requires
 question_at-question-requires c = let a = c.args in
     let p = c.requires in
-    omega (arith, header-room _ p.well_formed.0, c.literal_count.ensures.value, c.rule_count.ensures.value, place-low (job_of a.job.now) a.w a.n p.n_value.1, p.n_value.2, (sizes a.job.now).questions_are, p.well_formed.0)
+    omega (arith, place-low (job_of a.job.now) a.w a.n p.n_value.1, p.n_value.2, (sizes a.job.now).questions_are)
 
 -- the question that was read, in the job's terms
 asked : (c : After-question_at-question) → Asked c.args.job.now c.args.k c.question_at-question.result
-asked c = asked_at _ _ c.rule_count.ensures.value c.literal_count.ensures.value c.question_at-question.ensures
+asked c = asked_at _ _ refl refl c.question_at-question.ensures.value
 
 -- what the stores go by: the words are there, the claim is one of the job's, and the count of answers is small
 record Sure (s t : List ℕ) (w n k claim : ℕ) : Type 0 where
@@ -55,11 +51,11 @@ sure c =
     let t = a.table.now in
     let p = c.requires in
     record {
-      words = room s t p.well_formed.1;
-      low = claim-low s t a.w a.n a.k c.question_at-question.result (mark t c.question_at-question.result.claim) p.well_formed.0 p.well_formed.3 p.well_formed.2 p.n_value.0 p.n_value.1 p.n_value.2 (asked c) refl;
-      few = omega (arith, p.n_value.0, p.well_formed.1.answers a.w p.well_formed.2, few-asked s a.w, questions_count s, p.well_formed.0.sized.questions_most);
-      most = p.well_formed.0.sized.claims_most;
-      crew = p.well_formed.0.sized.workers_most;
+      words = room s t p.in_range.0;
+      low = claim-low s t a.w a.n a.k c.question_at-question.result (mark t c.question_at-question.result.claim) c.claim_count-claims.ensures.accepted p.in_range.2 p.in_range.1 p.n_value.0 p.n_value.1 p.n_value.2 (asked c) refl;
+      few = omega (arith, p.n_value.0, p.in_range.0.answers a.w p.in_range.1, few-asked s a.w, questions_count s, c.claim_count-claims.ensures.accepted.sized.questions_most);
+      most = c.claim_count-claims.ensures.accepted.sized.claims_most;
+      crew = c.claim_count-claims.ensures.accepted.sized.workers_most;
     }
 
 pub mark_at-mark-requires : goal.mark_at-mark-requires
@@ -81,44 +77,47 @@ set_answered-requires c = let a = c.args in
     let p = c.requires in
     let m = c.claim_count-claims.ensures.value in
     let z = longer a.table.now c.set_answer.new.table (answer_at c.claim_count-claims.result c.worker_count-workers.result a.k) c.value_of.result c.set_answer.ensures in
-    omega (arith, sure ((goal.at.set_answered-requires c).After-question_at-question), p.well_formed.2, m, z)
+    omega (arith, sure ((goal.at.set_answered-requires c).After-question_at-question), p.in_range.1, m, z)
 
 pub returns-then-is_complete : goal.returns-then-is_complete
-returns-then-is_complete c place members k = let a = c.args in
+returns-then-is_complete c = let a = c.args in
     let s = a.job.now in
     let t = a.table.now in
     let p = c.requires in
     let q = c.question_at-question.result in
     let v = c.value_of.ensures in
     let one = c.set_answer.ensures ∙ ap (set t (answer_at c.claim_count-claims.result c.worker_count-workers.result a.k)) v in
-    done_as c.after.ensures
-    (made-from (c.set_answered.ensures ∙ ap (λ (x : List ℕ). set x (answered_at c.claim_count-claims.result a.w) (a.n + 1)) one)
-    (puts-answered s t a.w a.n a.k q c.mark_at-mark.result p.well_formed.0 p.well_formed.3 p.well_formed.2 p.n_value.0 p.n_value.1 p.n_value.2 (asked (goal.at.returns-then-is_complete c).After-question_at-question) c.mark_at-mark.ensures.value (complete-yes c.is_complete.ensures c.if-is_complete.true) c.claim_count-claims.ensures.value c.worker_count-workers.ensures.value))
-    (answer_keeps _ (job_ok _ p.well_formed.0) _ _ _ _ k _ _ _ _ _ (c.claim_count-claims.ensures.value ∙ sym (sizes s).claims_are) (c.set_answered.ensures ∙ ap (λ (x : List ℕ). set x (answered_at c.claim_count-claims.result a.w) (a.n + 1)) one))
+    record {
+      made = made-from (c.set_answered.ensures ∙ ap (λ (x : List ℕ). set x (answered_at c.claim_count-claims.result a.w) (a.n + 1)) one)
+          (puts-answered s t a.w a.n a.k q c.mark_at-mark.result c.claim_count-claims.ensures.accepted p.in_range.2 p.in_range.1 p.n_value.0 p.n_value.1 p.n_value.2 (asked (goal.at.returns-then-is_complete c).After-question_at-question) c.mark_at-mark.ensures.value (complete-yes c.is_complete.ensures c.if-is_complete.true) c.claim_count-claims.ensures.value c.worker_count-workers.ensures.value);
+      keeps = answer_keeps _ (job_ok _ c.claim_count-claims.ensures.accepted) _ _ _ _ c.requires.keeps _ _ _ _ _ (c.claim_count-claims.ensures.value ∙ sym (sizes s).claims_are) (c.set_answered.ensures ∙ ap (λ (x : List ℕ). set x (answered_at c.claim_count-claims.result a.w) (a.n + 1)) one);
+    }
 
 pub open_newest-requires : goal.open_newest-requires
 open_newest-requires c = let a = c.args in
     let p = c.requires in
     let n = c.claim_count-claims.ensures.value in
-    let r = sure (goal.at.open_newest-requires c).After-question_at-question in record { c_lt_claims = (omega (arith, r, n), omega (arith, r, n), omega (arith, r, n, p.well_formed.2), omega (arith, r, p.well_formed.2)); table_bound = (fresh_left a.job.now a.table.now p.well_formed.0 p.well_formed.1 c.question_at-question.result.claim r.low (sym c.mark_at-mark.ensures.value ∙ c.if-mark-eq0.true), kept_low a.job.now a.table.now p.well_formed.3 a.w p.well_formed.2 n) }
+    let r = sure (goal.at.open_newest-requires c).After-question_at-question in record { c_lt_claims = (omega (arith, r, n), omega (arith, r, n), omega (arith, r, n, p.in_range.1), omega (arith, r, p.in_range.1)); table_bound = (fresh_left a.job.now a.table.now c.claim_count-claims.ensures.accepted p.in_range.0 c.question_at-question.result.claim r.low (sym c.mark_at-mark.ensures.value ∙ c.if-mark-eq0.true), kept_low a.job.now a.table.now p.in_range.2 a.w p.in_range.1 n) }
 
 pub returns-then-mark-eq0 : goal.returns-then-mark-eq0
-returns-then-mark-eq0 c place members k = let a = c.args in
+returns-then-mark-eq0 c = let a = c.args in
     let p = c.requires in
-    done_as (c.after-then-mark-eq0.ensures ∙ ap {B = Taken} (λ (x : Kept). record { kind = Opened; kept = x }) c.forgotten.ensures)
-    (puts-opened a.job.now a.table.now a.w a.n a.k c.question_at-question.result c.mark_at-mark.result p.well_formed.0 p.well_formed.3 p.well_formed.2 p.n_value.0 p.n_value.1 p.n_value.2 (asked (goal.at.returns-then-mark-eq0 c).After-question_at-question) c.mark_at-mark.ensures.value c.if-mark-eq0.true p.well_formed.1 c.claim_count-claims.ensures.value c.open_newest.ensures)
-    (open_forgets _ (job_ok _ p.well_formed.0) _ _ _ _ k _ _ (omega (arith, (sizes a.job.now).claims_are, (sure (goal.at.returns-then-mark-eq0 c).After-question_at-question).low)) (sym c.mark_at-mark.ensures.value ∙ c.if-mark-eq0.true) ((p.well_formed.1.claim _ (omega (arith, (sizes a.job.now).claims_are, (sure (goal.at.returns-then-mark-eq0 c).After-question_at-question).low))).unread (sym c.mark_at-mark.ensures.value ∙ c.if-mark-eq0.true)) (omega (arith, p.well_formed.2, p.well_formed.0.sized.workers_most)) (omega (arith, p.well_formed.1.room)) _ (c.claim_count-claims.ensures.value ∙ sym (sizes a.job.now).claims_are) c.open_newest.ensures)
+    record {
+      made = puts-opened a.job.now a.table.now a.w a.n a.k c.question_at-question.result c.mark_at-mark.result c.claim_count-claims.ensures.accepted p.in_range.2 p.in_range.1 p.n_value.0 p.n_value.1 p.n_value.2 (asked (goal.at.returns-then-mark-eq0 c).After-question_at-question) c.mark_at-mark.ensures.value c.if-mark-eq0.true p.in_range.0 c.claim_count-claims.ensures.value c.open_newest.ensures;
+      keeps = open_forgets _ (job_ok _ c.claim_count-claims.ensures.accepted) _ _ _ _ c.requires.keeps _ _ (omega (arith, (sizes a.job.now).claims_are, (sure (goal.at.returns-then-mark-eq0 c).After-question_at-question).low)) (sym c.mark_at-mark.ensures.value ∙ c.if-mark-eq0.true) ((p.in_range.0.claim _ (omega (arith, (sizes a.job.now).claims_are, (sure (goal.at.returns-then-mark-eq0 c).After-question_at-question).low))).unread (sym c.mark_at-mark.ensures.value ∙ c.if-mark-eq0.true)) (omega (arith, p.in_range.1, c.claim_count-claims.ensures.accepted.sized.workers_most)) (omega (arith, p.in_range.0.room)) _ (c.claim_count-claims.ensures.value ∙ sym (sizes a.job.now).claims_are) c.open_newest.ensures;
+    }
 
 pub overflow_add-claim : goal.overflow_add-claim
 overflow_add-claim c = omega (arith, sure ((goal.at.overflow_add-claim c).After-question_at-question))
 
 pub set_awaited-requires : goal.set_awaited-requires
-set_awaited-requires c = omega (arith, sure ((goal.at.set_awaited-requires c).After-question_at-question), c.requires.well_formed.2, c.claim_count-claims.ensures.value)
+set_awaited-requires c = omega (arith, sure ((goal.at.set_awaited-requires c).After-question_at-question), c.requires.in_range.1, c.claim_count-claims.ensures.value)
 
 pub returns : goal.returns
-returns c place members k = let a = c.args in
+returns c = let a = c.args in
     let p = c.requires in
-    done_as c.after-2.ensures
-    (made-from c.set_awaited.ensures
-    (puts-waits a.job.now a.table.now a.w a.n a.k c.question_at-question.result c.mark_at-mark.result p.well_formed.0 p.well_formed.3 p.well_formed.2 p.n_value.0 p.n_value.1 p.n_value.2 (asked (goal.at.returns c).After-question_at-question) c.mark_at-mark.ensures.value c.if-mark-eq0.false (complete-no c.is_complete.ensures c.if-is_complete.false) c.claim_count-claims.ensures.value))
-    (await-keeps _ (job_ok _ p.well_formed.0) _ _ _ _ k _ _ (c.claim_count-claims.ensures.value ∙ sym (sizes a.job.now).claims_are) c.set_awaited.ensures)
+    record {
+      made = made-from c.set_awaited.ensures
+          (puts-waits a.job.now a.table.now a.w a.n a.k c.question_at-question.result c.mark_at-mark.result c.claim_count-claims.ensures.accepted p.in_range.2 p.in_range.1 p.n_value.0 p.n_value.1 p.n_value.2 (asked (goal.at.returns c).After-question_at-question) c.mark_at-mark.ensures.value c.if-mark-eq0.false (complete-no c.is_complete.ensures c.if-is_complete.false) c.claim_count-claims.ensures.value);
+      keeps = await-keeps _ (job_ok _ c.claim_count-claims.ensures.accepted) _ _ _ _ c.requires.keeps _ _ (c.claim_count-claims.ensures.value ∙ sym (sizes a.job.now).claims_are) c.set_awaited.ensures;
+    }

@@ -1,9 +1,6 @@
-use Prim.Native.Nat.{◌-◌}
+use lib.ListN.{length}
 use Rattle.turn.proofs.Marking.{Taking}
 use Rattle.turn.proofs.marks.take_members.Given as goal
 
-abbrev pub invariant-loop-i : goal.invariant-loop-i
-invariant-loop-i l = Taking l.members l.initial.table l.count l.w l.i l.table
-
-abbrev pub decreases-loop-i : goal.decreases-loop-i
-decreases-loop-i l = l.count - l.i
+abbrev pub invariant-loop-member : goal.invariant-loop-member
+invariant-loop-member l = Taking l.members l.initial.table (length l.members) l.w l.member-index l.table

@@ -4,18 +4,14 @@ use mathlib.Core.Path.{sym, ◌∙◌, ap}
 use native.Mathlib.Omega.{arith}
 use borrow.Author.Tests.{eqb-true}
 use lib.ListN.{set}
-use Rattle.job.proofs.Accepted.{header-room}
 use Rattle.table.specs.Layout.{cursor_word, true_mark}
 use Rattle.table.proofs.Sizes.{sizes}
-use Rattle.turn.specs.declared.Kept.{Kept}
-use Rattle.turn.specs.declared.Taken.{Taken}
-use Rattle.turn.specs.declared.Kind.TheVariants.{Opened}
 use Rattle.turn.proofs.Tests.{complete-yes, complete-no}
 use Rattle.turn.proofs.Cursors.{next-there, next_left, next_is, moved-low, moved-by_one, Passing, moved_length, moved_range, moved-opened, moved-owner, moved-own, moved-kept, moved_ready, pass-complete, pass-own, pass-fresh, pass-took, pass-waits}
 use Rattle.turn.proofs.Following.{room}
 use Rattle.turn.proofs.Jobs.{job_ok}
 use Rattle.turn.proofs.KeptPassing.{passed-complete, passed_lacks, passed-opens}
-use Rattle.turn.proofs.KeptTurns.{done_as, await-keeps}
+use Rattle.turn.proofs.KeptTurns.{await-keeps}
 use Rattle.turn.proofs.ThirdWords.{kept_low}
 use Rattle.turn.proofs.passing.pass_clear.Goals as goal
 use Rattle.turn.proofs.passing.pass_clear.Goals.{After-move_to, Else-is_complete}
@@ -56,7 +52,7 @@ over-cursor-requires c = let p = c.requires in omega (arith, p.c_bound.0, p.read
 pub next_claim-b-requires : goal.next_claim-b-requires
 next_claim-b-requires c = let a = c.args in
     let p = c.requires in
-    (p.ready.job, next-there a.job.now a.index.now p.ready.job p.ready.indexed a.c p.c_bound.0 _ p.c_value.1 c.cursor_at.ensures.value c.over-cursor.ensures)
+    next-there a.job.now a.index.now p.ready.job p.ready.indexed a.c p.c_bound.0 _ p.c_value.1 c.cursor_at.ensures.value c.over-cursor.ensures
 
 pub mark_at-mark-requires : goal.mark_at-mark-requires
 mark_at-mark-requires c = omega (arith, room _ _ c.requires.ready.table, c.next_claim-b.ensures.1)
@@ -73,20 +69,17 @@ move_to-requires c = let a = c.args in
 pub returns-then-is_complete : goal.returns-then-is_complete
 returns-then-is_complete c = let p = c.requires in
     let h = complete-yes c.is_complete.ensures c.if-is_complete.true in
-    done_as c.after.ensures (pass-complete (facts (goal.at.returns-then-is_complete c).After-move_to) p.ready.newests h) (passed-complete (facts (goal.at.returns-then-is_complete c).After-move_to) p.ready _ _ _ p.keeps h)
+    record { made = pass-complete (facts (goal.at.returns-then-is_complete c).After-move_to) p.ready.newests h; keeps = passed-complete (facts (goal.at.returns-then-is_complete c).After-move_to) p.ready _ _ _ p.keeps h }
 
-pub extended-kept-requires : goal.extended-kept-requires
-extended-kept-requires c = let p = c.requires in
-    let g = facts (goal.at.extended-kept-requires c).After-move_to in record { ready = (moved_ready g p.ready, g.claim, g.low); lacking = passed_lacks g p.ready _ _ _ p.keeps (open-b (goal.at.extended-kept-requires c).Else-is_complete) }
+pub extend-requires : goal.extend-requires
+extend-requires c = let p = c.requires in
+    let g = facts (goal.at.extend-requires c).After-move_to in record { ready = (moved_ready g p.ready, g.claim, g.low); lacking = passed_lacks g p.ready _ _ _ p.keeps (open-b (goal.at.extend-requires c).Else-is_complete) }
 
 pub overflow_add-w : goal.overflow_add-w
 overflow_add-w c = omega (arith, small (goal.at.overflow_add-w c).After-move_to)
 
 pub returns-then-mark-w : goal.returns-then-mark-w
-returns-then-mark-w c = done_as c.after-then-mark-w.ensures (pass-own (facts (goal.at.returns-then-mark-w c).After-move_to) c.requires.ready.newests (open-b (goal.at.returns-then-mark-w c).Else-is_complete) c.if-mark-w.true) c.extended-kept.ensures
-
-pub claim_count-claims-requires : goal.claim_count-claims-requires
-claim_count-claims-requires c = header-room _ c.requires.ready.job
+returns-then-mark-w c = record { made = pass-own (facts (goal.at.returns-then-mark-w c).After-move_to) c.requires.ready.newests (open-b (goal.at.returns-then-mark-w c).Else-is_complete) c.if-mark-w.true; keeps = c.extend.ensures }
 
 pub open_newest-requires : goal.open_newest-requires
 open_newest-requires c = let a = c.requires.ready in
@@ -98,24 +91,26 @@ open_newest-requires c = let a = c.requires.ready in
 pub returns-then-mark-eq0 : goal.returns-then-mark-eq0
 returns-then-mark-eq0 c = let a = c.requires.ready in
     let n = c.claim_count-claims.ensures.value in
-    done_as (c.after-then-mark-eq0.ensures ∙ ap {B = Taken} (λ (x : Kept). record { kind = Opened; kept = x }) c.forgotten.ensures)
-    (pass-fresh (facts (goal.at.returns-then-mark-eq0 c).After-move_to) a.newests (open-b (goal.at.returns-then-mark-eq0 c).Else-is_complete) c.if-mark-w.false n c.if-mark-eq0.true a.job a.table c.open_newest.ensures)
-    (passed-opens (facts (goal.at.returns-then-mark-eq0 c).After-move_to) a _ _ _ c.extended-kept.ensures c.if-mark-eq0.true (small (goal.at.returns-then-mark-eq0 c).After-move_to) _ n c.open_newest.ensures)
+    record {
+      made = pass-fresh (facts (goal.at.returns-then-mark-eq0 c).After-move_to) a.newests (open-b (goal.at.returns-then-mark-eq0 c).Else-is_complete) c.if-mark-w.false n c.if-mark-eq0.true a.job a.table c.open_newest.ensures;
+      keeps = passed-opens (facts (goal.at.returns-then-mark-eq0 c).After-move_to) a _ _ _ c.extend.ensures c.if-mark-eq0.true (small (goal.at.returns-then-mark-eq0 c).After-move_to) _ n c.open_newest.ensures;
+    }
 
 pub meets_worker-requires : goal.meets_worker-requires
 meets_worker-requires c = let a = c.requires.ready in
     let g = facts (goal.at.meets_worker-requires c).After-move_to in
-    (a.job, moved_range g a.job a.table, moved-owner g a.job a.table c.if-mark-eq0.false (open-b (goal.at.meets_worker-requires c).Else-is_complete))
+    (moved_range g a.job a.table, moved-owner g a.job a.table c.if-mark-eq0.false (open-b (goal.at.meets_worker-requires c).Else-is_complete))
 
-pub take_over-taken-requires : goal.take_over-taken-requires
-take_over-taken-requires c = let a = c.requires in
-    let g = facts (goal.at.take_over-taken-requires c).After-move_to in record { ready = moved_ready g a.ready; c_bound = (g.claim, g.worker, moved-own g); keeps = c.extended-kept.ensures }
+pub take_over-requires : goal.take_over-requires
+take_over-requires c = let a = c.requires in
+    let g = facts (goal.at.take_over-requires c).After-move_to in record { ready = moved_ready g a.ready; within = (g.claim, g.worker, moved-own g); keeps = c.extend.ensures }
 
 pub returns-then-meets_worker : goal.returns-then-meets_worker
 returns-then-meets_worker c = let a = c.requires.ready in
-    done_as c.after-then-meets_worker.ensures
-    (pass-took (facts (goal.at.returns-then-meets_worker c).After-move_to) a.newests (open-b (goal.at.returns-then-meets_worker c).Else-is_complete) c.if-mark-w.false c.claim_count-claims.ensures.value c.if-mark-eq0.false c.meets_worker.ensures c.if-meets_worker.true c.take_over-taken.ensures.table_after)
-    c.take_over-taken.ensures.keeps_2
+    record {
+      made = pass-took (facts (goal.at.returns-then-meets_worker c).After-move_to) a.newests (open-b (goal.at.returns-then-meets_worker c).Else-is_complete) c.if-mark-w.false c.claim_count-claims.ensures.value c.if-mark-eq0.false c.meets_worker.ensures c.if-meets_worker.true c.take_over.ensures.taken;
+      keeps = c.take_over.ensures.keeps;
+    }
 
 pub overflow_add-b : goal.overflow_add-b
 overflow_add-b c = omega (arith, c.requires.ready.job.sized.claims_most, c.next_claim-b.ensures.1)
@@ -129,15 +124,16 @@ pub returns : goal.returns
 returns c = let s = c.args.job.now in
     let a = c.requires.ready in
     let n = c.claim_count-claims.ensures.value in
-    done_as c.after-2.ensures
-    (pass-waits (facts (goal.at.returns c).After-move_to) a.newests (open-b (goal.at.returns c).Else-is_complete) c.if-mark-w.false n c.if-mark-eq0.false c.meets_worker.ensures c.if-meets_worker.false c.set_awaited.ensures)
-    (await-keeps _ (job_ok s a.job) _ _ _ _ c.extended-kept.ensures _ _ (n ∙ sym (sizes s).claims_are) c.set_awaited.ensures)
+    record {
+      made = pass-waits (facts (goal.at.returns c).After-move_to) a.newests (open-b (goal.at.returns c).Else-is_complete) c.if-mark-w.false n c.if-mark-eq0.false c.meets_worker.ensures c.if-meets_worker.false c.set_awaited.ensures;
+      keeps = await-keeps _ (job_ok s a.job) _ _ _ _ c.extend.ensures _ _ (n ∙ sym (sizes s).claims_are) c.set_awaited.ensures;
+    }
 
 pub shape_of-table-then-mark-eq0 : goal.shape_of-table-then-mark-eq0
 shape_of-table-then-mark-eq0 c = c.open_newest.auto.table ∙ c.move_to.auto.table
 
 pub shape_of-table-then-meets_worker : goal.shape_of-table-then-meets_worker
-shape_of-table-then-meets_worker c = c.take_over-taken.auto.table ∙ c.move_to.auto.table
+shape_of-table-then-meets_worker c = c.take_over.auto.table ∙ c.move_to.auto.table
 
 pub shape_of-table : goal.shape_of-table
 shape_of-table c = c.set_awaited.auto.table ∙ c.move_to.auto.table

@@ -3,7 +3,6 @@ use native.Mathlib.Omega.{arith}
 use Rattle.turn.proofs.Cursors.{next-there}
 use Rattle.turn.proofs.Following.{room}
 use Rattle.turn.proofs.KeptPassing.{skipped-keeps}
-use Rattle.turn.proofs.KeptTurns.{done_as}
 use Rattle.turn.proofs.Skipping.{skip-low, skip_stored, skip-behind, pass-skipped, pass-clear}
 use Rattle.turn.proofs.passing.pass_turn.Goals as goal
 
@@ -31,9 +30,10 @@ returns-then-rule_failed c = let a = c.args in
     let e = c.cursor_at-passed.ensures.value in
     let f = c.rule_failed.ensures in
     let l = p.c_value.1 in
-    done_as c.after.ensures
-    (pass-skipped s i t p.ready a.w a.c p.c_bound.0 l e f c.over-cursor.ensures c.past_rule.ensures c.if-rule_failed.true c.move_to.ensures)
-    (skipped-keeps p.ready a.c p.c_bound.0 l (skip-behind s i t p.ready a.w a.c p.c_bound.0 l e f c.if-rule_failed.true) (skip_stored s i t p.ready a.w a.c p.c_bound.0 l e f c.over-cursor.ensures c.past_rule.ensures c.move_to.ensures) _ _ _ p.keeps)
+    record {
+      made = pass-skipped s i t p.ready a.w a.c p.c_bound.0 l e f c.over-cursor.ensures c.past_rule.ensures c.if-rule_failed.true c.move_to.ensures;
+      keeps = skipped-keeps p.ready a.c p.c_bound.0 l (skip-behind s i t p.ready a.w a.c p.c_bound.0 l e f c.if-rule_failed.true) (skip_stored s i t p.ready a.w a.c p.c_bound.0 l e f c.over-cursor.ensures c.past_rule.ensures c.move_to.ensures) _ _ _ p.keeps;
+    }
 
 pub pass_clear-requires : goal.pass_clear-requires
 pass_clear-requires c = let a = c.args in

@@ -1,29 +1,22 @@
-use native.Mathlib.Omega.{arith}
-use Rattle.turn.proofs.Sweeps.{owning_none, owning_more, owning-not, owning_all}
+use mathlib.Core.Path.{◌≡◌, ◌∙◌}
+use Prim.Native.Nat.{◌+◌}
+use borrow.Author.Tests.{tests}
+use lib.ListN.{get_or}
+use Rattle.std.proofs.Common.{rules}
+use Rattle.std.proofs.lemmas.Grind.{get_or_default_zero}
+use Rattle.std.proofs.lemmas.Iterator.{YieldsList-from_slice, cases_from_all}
+use Rattle.std.proofs.lemmas.Iterator.Adapters.{serves_from_places}
+use Rattle.table.specs.Layout.{mark}
+use Rattle.turn.proofs.Sweeps.{owns-all}
 use Rattle.turn.proofs.remaining.all_owned.Goals as goal
 
-pub loop-i-init : goal.loop-i-init
-loop-i-init c = owning_none _ _ _ _
-
-pub bounds-members-i : goal.bounds-members-i
-bounds-members-i c = omega (arith, c.requires.0.many)
-
-pub mark_at-requires : goal.mark_at-requires
-mark_at-requires c = let p = c.requires.0 in
-    let l = c.loop-i-test.true in
-    omega (arith, c.half.ensures.value, p.few _ l, p.words _ l)
-
-pub overflow_add-w : goal.overflow_add-w
-overflow_add-w c = omega (arith, c.requires.1)
-
-pub returns-then-mark_at-w : goal.returns-then-mark_at-w
-returns-then-mark_at-w c = owning-not c.loop-i.invariant c.loop-i-test.true c.half.ensures.value c.mark_at.ensures.value c.if-mark_at-w.true
-
-pub loop-i-smaller : goal.loop-i-smaller
-loop-i-smaller c = omega (arith, c.loop-i-test.true)
-
-pub loop-i-preserved : goal.loop-i-preserved
-loop-i-preserved c = owning_more c.loop-i.invariant c.loop-i-test.true c.half.ensures.value c.mark_at.ensures.value c.if-mark_at-w.false
+pub all-requires-clause-callable : goal.all-requires-clause-callable
+all-requires-clause-callable c = serves_from_places (YieldsList-from_slice c.args.members.now cc) (λ x q k. search rules)
+    (λ x k l e.
+    let q : x.now ≡ get_or c.args.members.now k 0 = e ∙ get_or_default_zero c.args.members.now k x.now l in
+    let p = c.requires.0.words k l in
+    search rules)
 
 pub returns : goal.returns
-returns c = owning_all c.loop-i.invariant c.loop-i-test.false
+returns c = owns-all _ _ _
+    (cases_from_all _ _ _ (λ d. mark c.args.table.now d ≡ c.args.w + 1) (λ d. mark c.args.table.now d ≡ c.args.w + 1 → ⊥) c.all.ensures.ran (YieldsList-from_slice c.args.members.now cc) (λ x q k. search (rules, tests)) (λ x q k. search (rules, tests)))

@@ -1,9 +1,6 @@
-use Prim.Native.Nat.{◌-◌}
+use lib.ListN.{length}
 use Rattle.turn.proofs.Sweeps.{Swept}
 use Rattle.turn.proofs.remaining.newest_left.Given as goal
 
-abbrev pub invariant-loop-i : goal.invariant-loop-i
-invariant-loop-i l = Swept l.index l.table l.members l.count l.w l.i l.best
-
-abbrev pub decreases-loop-i : goal.decreases-loop-i
-decreases-loop-i l = l.count - l.i
+abbrev pub invariant-loop-member : goal.invariant-loop-member
+invariant-loop-member l = Swept l.index l.table l.members (length l.members) l.w l.member-index l.best

@@ -1,33 +1,30 @@
 -- The members fit the array.
 use Prim.Native.Nat.{ℕ, ◌≤◌}
+use mathlib.Core.List.{List}
 use mathlib.Core.Path.{sym, ◌∙◌, ap}
 use native.Mathlib.Omega.{arith}
-use lib.ListN.{length, set}
+use lib.ListN.{length, set, take}
 use lib.Seq.{length-take-le}
-use Rattle.job.proofs.Accepted.{header-room}
+use Rattle.job.specs.Job.{most_claims}
+use Rattle.parts.specs.Written.{Lent}
 use Rattle.table.specs.Layout.{newest_at}
 use Rattle.table.specs.Newest.{sought}
 use Rattle.table.proofs.Sizes.{sizes}
 use Rattle.turn.proofs.Following.{room}
 use Rattle.turn.proofs.PartMarks.{part-few}
 use Rattle.turn.proofs.working.complete.Goals as goal
-use Rattle.turn.proofs.working.complete.Goals.{After-no_bytes-values}
 
--- the members fit the array
-few : (c : After-no_bytes-values) → length c.args.members.now ≤ length c.no_bytes-values.result
-few c = omega (arith, c.no_bytes-values.ensures, part-few c.requires.lent.0)
+few : {s index t place : List ℕ} (members : List ℕ) {n : ℕ} → Lent s index t place (take n members) → n ≤ length members → n ≤ most_claims
+few members p h = omega (arith, part-few p, length-take-le _ _ h)
 
 pub slice_bounds-values-end : goal.slice_bounds-values-end
-slice_bounds-values-end c = few (goal.at.slice_bounds-values-end c).After-no_bytes-values
+slice_bounds-values-end c = few _ c.requires.lent.0 c.requires.fits
 
-pub slice_bounds-complete_in-end : goal.slice_bounds-complete_in-end
-slice_bounds-complete_in-end c = sym (length-take-le _ _ (few (goal.at.slice_bounds-complete_in-end c).After-no_bytes-values))
+pub slice_bounds-complete_in-end-3 : goal.slice_bounds-complete_in-end-3
+slice_bounds-complete_in-end-3 c = sym (length-take-le _ _ (few _ c.requires.lent.0 c.requires.fits))
 
-pub complete_in-requires : goal.complete_in-requires
-complete_in-requires c = record { lent = c.requires.lent; values_len = length-take-le _ _ (few (goal.at.complete_in-requires c).After-no_bytes-values) }
-
-pub claim_count-requires : goal.claim_count-requires
-claim_count-requires c = header-room _ c.requires.lent.0.job
+pub complete_in-requires-clause-values_len : goal.complete_in-requires-clause-values_len
+complete_in-requires-clause-values_len c = length-take-le _ _ (few _ c.requires.lent.0 c.requires.fits) ∙ sym (length-take-le _ _ c.requires.fits)
 
 pub seek_newest-requires : goal.seek_newest-requires
 seek_newest-requires c = let p = c.requires in

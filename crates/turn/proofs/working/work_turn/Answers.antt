@@ -4,38 +4,35 @@ use mathlib.Core.Bool.{false}
 use native.Mathlib.Omega.{arith}
 use borrow.Author.Tests.{eq-eqb}
 use lib.ListN.{length}
-use lib.Seq.{length-take-le}
 use Rattle.job.specs.Format.{job_of}
 use Rattle.table.proofs.Sizes.{sizes}
 use Rattle.turn.specs.Ready.{passed_in}
 use Rattle.turn.specs.Gather.{Gathered}
-use Rattle.turn.specs.KeptSet.{held, Keeps, Places}
+use Rattle.turn.specs.KeptSet.{held, word_of, Keeps, Places}
 use Rattle.turn.specs.declared.Kept.{Kept}
-use Rattle.turn.specs.declared.Taken.{Taken}
-use Rattle.turn.specs.declared.Kind.TheVariants.{Completed}
 use Rattle.turn.proofs.Completing.{first_left, first_passes}
 use Rattle.turn.proofs.Jobs.{job_ok}
 use Rattle.turn.proofs.KeptLaws.{nothing-keeps}
 use Rattle.turn.proofs.KeptMembers.{kept-places}
-use Rattle.turn.proofs.KeptTurns.{done_as, done_through}
+use Rattle.turn.proofs.KeptTurns.{done_through}
 use Rattle.turn.proofs.KeptWork.{found-by, lent-part, chosen-low, chosen_left, chosen-own, chosen-keeps, work-passes, work_idle, work-completed, alone-part}
 use Rattle.turn.proofs.working.work_turn.Goals as goal
-use Rattle.turn.proofs.working.work_turn.Goals.{After-reaching-kept, Then-not-passed_all}
+use Rattle.turn.proofs.working.work_turn.Goals.{After-reach, Then-not-passed_all}
 
 -- the newest claim has a literal left
 left : (c : Then-not-passed_all) → passed_in c.args.index.now c.args.table.now c.args.n ≡ false
 left c = sym c.passed_all.ensures ∙ c.if-not-passed_all.true
 
 -- what is kept, and the words of its members
-places : (c : After-reaching-kept) → Places c.args.table.now c.reaching-kept.new.members c.reaching-kept.result.count
+places : (c : After-reach) → Places c.args.table.now c.reach.new.self.members.now c.reach.new.self.kept.count
 places c =
     let p = c.requires in
-    kept-places _ (job_ok _ p.ready.job) _ _ _ _ c.reaching-kept.ensures.0 (omega (arith, p.ready.job.sized.claims_most, (sizes c.args.job.now).claims_are)) (omega (arith, p.ready.table.room))
+    kept-places _ (job_ok _ p.ready.job) _ _ _ _ c.reach.ensures.0 (omega (arith, p.ready.job.sized.claims_most, (sizes c.args.job.now).claims_are)) (omega (arith, p.ready.table.room))
 
-crew : (c : After-reaching-kept) → c.args.w < 32
+crew : (c : After-reach) → c.args.w < 32
 crew c = omega (arith, c.requires.n_bound.1, c.requires.ready.job.sized.workers_most)
 
-many : (c : After-reaching-kept) → c.reaching-kept.result.count ≤ length c.reaching-kept.new.members
+many : (c : After-reach) → c.reach.new.self.kept.count ≤ length c.reach.new.self.members.now
 many c = (places c).many
 
 pub passed_all-requires : goal.passed_all-requires
@@ -51,73 +48,64 @@ returns-then-not-passed_all c = let a = c.args in
     let p = c.requires in
     done_through (first_passes a.job.now a.index.now a.table.now p.ready a.w a.n p.n_bound.0 p.n_bound.2 (left (goal.at.returns-then-not-passed_all c).Then-not-passed_all)) c.pass_turn.ensures
 
-pub reaching-kept-requires : goal.reaching-kept-requires
-reaching-kept-requires c = let p = c.requires in record { ready = (p.ready, p.n_bound.0); keeps = p.keeps }
+pub reach-requires : goal.reach-requires
+reach-requires c = let p = c.requires in record { ready = (p.ready, p.n_bound.0); keeps = p.keeps }
 
-pub chosen-left-requires : goal.chosen-left-requires
-chosen-left-requires c = (places (goal.at.chosen-left-requires c).After-reaching-kept, crew (goal.at.chosen-left-requires c).After-reaching-kept, found-by _ _ _ c.requires.ready _ _ _ c.reaching-kept.ensures.0)
+pub chosen-requires : goal.chosen-requires
+chosen-requires c = (places (goal.at.chosen-requires c).After-reach, crew (goal.at.chosen-requires c).After-reach, found-by _ _ _ c.requires.ready _ _ _ c.reach.ensures.0)
 
-pub pass_turn-requires-then-left-ne0 : goal.pass_turn-requires-then-left-ne0
-pass_turn-requires-then-left-ne0 c = let a = c.args in
+pub pass_turn-requires-in-Some : goal.pass_turn-requires-in-Some
+pass_turn-requires-in-Some c = let a = c.args in
     let p = c.requires in
-    let r = c.reaching-kept in
+    let r = c.reach in
     let s = a.job.now in
     let i = a.index.now in
     let t = a.table.now in
-    let q = r.new.place in
-    let m = r.new.members in
-    let x = c.chosen-left.ensures in
-    let h = c.if-left-ne0.true in record { ready = p.ready; c_bound = (chosen-low s i t p.ready r.result q m r.ensures.0 a.w a.n p.n_bound.0 r.ensures.1 x h, p.n_bound.1); c_value = (chosen-own s i t p.ready r.result q m r.ensures.0 a.w a.n p.n_bound.0 r.ensures.1 x h, (chosen_left s i t p.ready r.result q m r.ensures.0 a.w a.n p.n_bound.0 r.ensures.1 x h).some); keeps = subst⁻¹ (λ (y : Kept). Keeps (job_of s) t y q m) c.choosing-next.ensures (chosen-keeps s i t p.ready r.result q m r.ensures.0 a.w a.n p.n_bound.0 r.ensures.1 x h) }
+    let q = r.new.self.place.now in
+    let m = r.new.self.members.now in
+    let x = c.chosen.ensures in
+    let h = ap word_of c.in-Some.is in record { ready = p.ready; c_bound = (chosen-low s i t p.ready r.new.self.kept q m r.ensures.0 a.w a.n p.n_bound.0 r.ensures.1 x _ h, p.n_bound.1); c_value = (chosen-own s i t p.ready r.new.self.kept q m r.ensures.0 a.w a.n p.n_bound.0 r.ensures.1 x _ h, (chosen_left s i t p.ready r.new.self.kept q m r.ensures.0 a.w a.n p.n_bound.0 r.ensures.1 x _ h).some); keeps = chosen-keeps s i t p.ready r.new.self.kept q m r.ensures.0 a.w a.n p.n_bound.0 r.ensures.1 x _ h }
 
-pub returns-then-left-ne0 : goal.returns-then-left-ne0
-returns-then-left-ne0 c = let a = c.args in
+pub returns-in-Some : goal.returns-in-Some
+returns-in-Some c = let a = c.args in
     let p = c.requires in
-    let r = c.reaching-kept in
-    done_through (work-passes a.job.now a.index.now a.table.now p.ready r.result r.new.place r.new.members r.ensures.0 a.w a.n p.n_bound.0 r.ensures.1 c.chosen-left.ensures c.if-left-ne0.true) c.pass_turn-then-left-ne0.ensures
+    let r = c.reach in
+    done_through (work-passes a.job.now a.index.now a.table.now p.ready r.new.self.kept r.new.self.place.now r.new.self.members.now r.ensures.0 a.w a.n p.n_bound.0 r.ensures.1 c.chosen.ensures _ (ap word_of c.in-Some.is)) c.pass_turn-in-Some.ensures
 
 pub all_owned-requires : goal.all_owned-requires
-all_owned-requires c = (places (goal.at.all_owned-requires c).After-reaching-kept, crew (goal.at.all_owned-requires c).After-reaching-kept)
-
-pub slice_bounds-complete-end : goal.slice_bounds-complete-end
-slice_bounds-complete-end c = many (goal.at.slice_bounds-complete-end c).After-reaching-kept
-
-pub slice_bounds-complete-end-then-all_owned : goal.slice_bounds-complete-end-then-all_owned
-slice_bounds-complete-end-then-all_owned c = sym (length-take-le _ _ (many (goal.at.slice_bounds-complete-end-then-all_owned c).After-reaching-kept))
+all_owned-requires c = let x = (goal.at.all_owned-requires c).After-reach in (places x, crew x)
 
 pub complete-requires : goal.complete-requires
 complete-requires c = let a = c.args in
     let p = c.requires in
-    let r = c.reaching-kept in
-    let q = r.new.place in
-    let m = r.new.members in record { lent = (lent-part _ _ _ p.ready r.result q m r.ensures.0, alone-part a.job.now a.index.now a.table.now p.ready r.result q m r.ensures.0 a.w a.n p.n_bound.0 r.ensures.1 c.chosen-left.ensures c.if-left-ne0.false c.all_owned.ensures c.if-all_owned.true p.n_bound.1); w_bound = p.n_bound.1 }
+    let r = c.reach in
+    let q = r.new.self.place.now in
+    let m = r.new.self.members.now in record { lent = (lent-part _ _ _ p.ready r.new.self.kept q m r.ensures.0, alone-part a.job.now a.index.now a.table.now p.ready r.new.self.kept q m r.ensures.0 a.w a.n p.n_bound.0 r.ensures.1 c.chosen.ensures (ap word_of c.in_default.is) c.all_owned.ensures c.if-all_owned.true p.n_bound.1); fits = many (goal.at.complete-requires c).After-reach; w_bound = p.n_bound.1 }
 
-pub dropped-requires : goal.dropped-requires
-dropped-requires c = let r = c.reaching-kept in
+pub clear-requires : goal.clear-requires
+clear-requires c = let r = c.reach in
     let g = r.ensures.0.gathered in
-    subst⁻¹ (λ n. Gathered n (held r.result r.new.place r.new.members)) g.long g
+    subst⁻¹ (λ n. Gathered n (held r.new.self.kept r.new.self.place.now r.new.self.members.now)) g.long g
 
 pub returns-then-all_owned : goal.returns-then-all_owned
 returns-then-all_owned c = let a = c.args in
     let p = c.requires in
-    let r = c.reaching-kept in
-    let q = r.new.place in
-    let m = r.new.members in
+    let r = c.reach in
+    let q = r.new.self.place.now in
+    let m = r.new.self.members.now in
     let g = r.ensures.0.gathered in
-    let d = c.dropped in
-    done_as (c.after.ensures ∙ ap {B = Taken} (λ (x : Kept). record { kind = Completed; kept = x }) d.ensures.0)
-    (work-completed a.job.now a.index.now a.table.now p.ready r.result q m r.ensures.0 a.w a.n p.n_bound.0 r.ensures.1 c.chosen-left.ensures c.if-left-ne0.false c.all_owned.ensures c.if-all_owned.true p.n_bound.1 c.complete.ensures)
-    (nothing-keeps _ _ d.new.place m d.ensures.1 g.few (d.auto.place ∙ g.long) g.wide)
+    let d = c.clear in
+    record {
+      made = work-completed a.job.now a.index.now a.table.now p.ready r.new.self.kept q m r.ensures.0 a.w a.n p.n_bound.0 r.ensures.1 c.chosen.ensures (ap word_of c.in_default.is) c.all_owned.ensures c.if-all_owned.true p.n_bound.1 c.complete.ensures;
+      keeps = subst⁻¹ (λ (x : Kept). Keeps (job_of a.job.now) c.complete.new.table x d.new.self.place.now d.new.self.members.now) d.ensures.kept
+          (nothing-keeps _ _ _ _ d.ensures.zeros g.few (d.ensures.room.0 ∙ g.long) (omega (arith, g.wide, ap length d.ensures.room.1)));
+    }
 
 pub returns : goal.returns
 returns c = let a = c.args in
     let p = c.requires in
-    let r = c.reaching-kept in
-    done_as c.after-2.ensures
-    (work_idle a.job.now a.index.now a.table.now p.ready r.result r.new.place r.new.members r.ensures.0 a.w a.n p.n_bound.0 r.ensures.1 c.chosen-left.ensures c.if-left-ne0.false c.all_owned.ensures c.if-all_owned.false)
-    r.ensures.0
-
-pub shape_of-place-then-all_owned : goal.shape_of-place-then-all_owned
-shape_of-place-then-all_owned c = c.dropped.auto.place ∙ c.reaching-kept.auto.place
-
-pub shape_of-members-then-all_owned : goal.shape_of-members-then-all_owned
-shape_of-members-then-all_owned c = c.reaching-kept.auto.members
+    let r = c.reach in
+    record {
+      made = work_idle a.job.now a.index.now a.table.now p.ready r.new.self.kept r.new.self.place.now r.new.self.members.now r.ensures.0 a.w a.n p.n_bound.0 r.ensures.1 c.chosen.ensures (ap word_of c.in_default.is) c.all_owned.ensures c.if-all_owned.false;
+      keeps = r.ensures.0;
+    }

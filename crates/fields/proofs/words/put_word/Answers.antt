@@ -1,6 +1,0 @@
-use Rattle.writing.proofs.Wrote.{put_put}
-use native.Mathlib.Omega.{arith}
-use Rattle.fields.proofs.words.put_word.Goals as goal
-
-pub returns : goal.returns
-returns c = put_put _ _ _ _ _ (omega arith) c.put_half-a.ensures _ _ _ c.put_half.ensures

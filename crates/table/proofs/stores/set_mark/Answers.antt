@@ -1,6 +1,0 @@
-use Rattle.table.proofs.Sizes.{set_there}
-use Rattle.table.proofs.stores.set_mark.Goals as goal
-
-pub returns : goal.returns
-returns c = let a = c.args in
-    set_there a.table.now a.v c.mark_word.ensures c.set_word.ensures

@@ -1,5 +1,0 @@
-use Rattle.table.proofs.Sizes.{word-there}
-use Rattle.table.proofs.words.number_at.Goals as goal
-
-pub returns : goal.returns
-returns c = word-there c.args.table.now c.number_word.ensures c.word_at.ensures

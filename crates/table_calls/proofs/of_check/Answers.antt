@@ -1,6 +1,0 @@
-use mathlib.Core.Path.{sym, ◌∙◌, ap}
-use Rattle.table_calls.specs.Numbers.{of_check}
-use Rattle.table_calls.proofs.of_check.Goals as goal
-
-pub returns-in-Refused : goal.returns-in-Refused
-returns-in-Refused c = c.of_refusal.ensures ∙ sym (ap of_check c.in-Refused.is)
