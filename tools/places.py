@@ -28,7 +28,8 @@ def signatures():
     for file in FILES:
         text = open(file).read()
         for m in re.finditer(r"\bfn (\w+)(?:<[^>]*>)?\(([^)]*)\)", text):
-            parameters = [p for p in m.group(2).split(",") if p.strip()]
+            apart = re.sub(r"<[^<>]*>", "", m.group(2))  # a comma between lifetimes parts no parameters
+            parameters = [p for p in apart.split(",") if p.strip()]
             yield f"{file}: {m.group(1)}", parameters
 
 

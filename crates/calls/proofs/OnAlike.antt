@@ -26,7 +26,7 @@ use Rattle.steps.specs.Agreeing.{Agree}
 use Rattle.steps.proofs.Agreeing.{mark_same}
 use Rattle.steps.proofs.SameTurns.{turn-alike, run-alike}
 use Rattle.steps.proofs.SameChecks.{check_same}
-use Rattle.calls.specs.Calls.{check_turn_worker, check_schedule, check_claim_read, turn_check, turn_answer, run_check, tally, run_answer, read_check, read_answer, answered}
+use Rattle.calls.specs.Calls.{check_turn_worker, check_schedule, check_claim_read, turn_check, turn_answer, run_check, tally, run_tally, run_answer, read_check, read_answer, answered}
 use Rattle.calls.specs.Lists.{Call, turning, running, reading, left, after, unless, made, turns_of, Event, run_events, events}
 use Rattle.calls.specs.Alike.{SameAnswers, Alike}
 use Rattle.calls.proofs.Histories.{low_all, turn-worker, run-workers, left-made, made-low}
@@ -68,6 +68,13 @@ module _ (s : List ℕ) (e : Accepted ≡ check_job s) {t u : List ℕ} (a : Agr
       answered_same (turn_check s t w) (λ q. (turn-alike (ok s e) a w (turn-worker s t w q) (in-range (check_turn_worker s w) q)).kind)
       ∙ ap (λ (k : Check). turn_answer k s u w) (checks_same (check_turn_worker s w))
 
+  tallies_same : (ws : List ℕ) → run_tally (run_check s t ws) s t ws ≡ run_tally (run_check s u ws) s u ws
+  unfolding run_check run_tally
+  tallies_same ws =
+      by-check (λ (k : Check). run_tally k s t ws ≡ run_tally k s u ws) (λ e. refl) (run_check s t ws)
+      (λ q. ap tally (run-alike (ok s e) ws (in-range (check_schedule s ws) q) a (low_all (job_of s) ws (run-workers s t ws q))).0)
+      ∙ ap (λ (k : Check). run_tally k s u ws) (checks_same (check_schedule s ws))
+
   run-answers : (ws : List ℕ) → run_answer s t ws ≡ run_answer s u ws
   unfolding run_check
   run-answers ws =
@@ -81,7 +88,7 @@ module _ (s : List ℕ) (e : Accepted ≡ check_job s) {t u : List ℕ} (a : Agr
       ∙ ap (λ (k : Check). read_answer k u c) (checks_same (check_claim_read s c))
 
   answers_same : SameAnswers s t u
-  answers_same = record { turns = turn-answers; runs = run-answers; reads = read-answers }
+  answers_same = record { turns = turn-answers; runs = run-answers; reads = read-answers; tallies = tallies_same }
 
   -- the turns that it makes
   made_same : (x : Call) → made s t x ≡ made s u x

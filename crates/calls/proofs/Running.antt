@@ -30,7 +30,7 @@ use Rattle.turn.proofs.Lengths.{turn-length}
 use Rattle.calls.specs.Calls.{counted}
 use Rattle.calls.proofs.Tallies.{one_more}
 
-pub record Partly (s t₀ counts₀ all : List ℕ) (n : ℕ) (rest t counts : List ℕ) (kept : Kept) (place members : List ℕ) : Type 0 where
+pub record Partly (s t₀ counts₀ all members₀ : List ℕ) (n : ℕ) (rest t counts : List ℕ) (kept : Kept) (place members : List ℕ) : Type 0 where
   pub range : InRange (job_of s) t
   pub newests : NewestKept (job_of s) t
   pub long : length t ≡ length t₀
@@ -38,12 +38,13 @@ pub record Partly (s t₀ counts₀ all : List ℕ) (n : ℕ) (rest t counts : L
   pub tallies : counted counts₀ (run_kinds (job_of s) t₀ all) ≡ counted counts (run_kinds (job_of s) t rest)
   pub small : (k : ℕ) → get_or counts k 0 ≤ n
   pub keeps : Keeps (job_of s) t kept place members
+  pub wide : length members ≡ length members₀
 
 module _ (s : List ℕ) where
-  module _ {index : List ℕ} (t₀ counts₀ all : List ℕ) where
+  module _ {index : List ℕ} (t₀ counts₀ all members₀ : List ℕ) where
     pub partly-start :
-        Ready s index t₀ → {kept : Kept} {place members : List ℕ} → Keeps (job_of s) t₀ kept place members
-        → {counts : List ℕ} → counts ≡ counts₀ → {n : ℕ} → ((k : ℕ) → get_or counts k 0 ≤ n) → Partly s t₀ counts₀ all n all t₀ counts kept place members
+        Ready s index t₀ → {kept : Kept} {place : List ℕ} → Keeps (job_of s) t₀ kept place members₀
+        → {counts : List ℕ} → counts ≡ counts₀ → {n : ℕ} → ((k : ℕ) → get_or counts k 0 ≤ n) → Partly s t₀ counts₀ all members₀ n all t₀ counts kept place members₀
     partly-start r k c few =
         record {
           range = r.table;
@@ -53,9 +54,10 @@ module _ (s : List ℕ) where
           tallies = ap (λ (x : List ℕ). counted x (run_kinds (job_of s) t₀ all)) (sym c);
           small = few;
           keeps = k;
+          wide = refl;
         }
 
-  module _ {t₀ counts₀ all : List ℕ} {n : ℕ} {rest t counts : List ℕ} {kept : Kept} {place members : List ℕ} (p : Partly s t₀ counts₀ all n rest t counts kept place members) where
+  module _ {t₀ counts₀ all members₀ : List ℕ} {n : ℕ} {rest t counts : List ℕ} {kept : Kept} {place members : List ℕ} (p : Partly s t₀ counts₀ all members₀ n rest t counts kept place members) where
     pub partly-ready : {index : List ℕ} → Ready s index t₀ → Ready s index t
     partly-ready r = record { job = r.job; indexed = r.indexed; table = p.range; newests = p.newests }
 
@@ -65,9 +67,9 @@ module _ (s : List ℕ) where
     module _ (good : WellFormed s) {w : ℕ} (low : w < workers s) {x : Kind} {k : Kept} {u place' members' : List ℕ} (done : Done (job_of s) (turn (job_of s) t w) x k u place' members') where
       pub partly_more :
           {later : List ℕ} → rest ≡ w ∷ later → {next : List ℕ} → next ≡ set counts (kind_number x) (get_or counts (kind_number x) 0 + 1)
-          → Partly s t₀ counts₀ all (n + 1) later u next k place' members'
+          → length members' ≡ length members → Partly s t₀ counts₀ all members₀ (n + 1) later u next k place' members'
       unfolding run_table run_kinds counted job_of
-      partly_more {later} first {next} count =
+      partly_more {later} first {next} count same =
           let made = done.made in
           record {
             range = rw made.table_is (turn_in_range (job_ok s good) p.range low);
@@ -81,6 +83,7 @@ module _ (s : List ℕ) where
                 ∙ ap (λ (y : List ℕ). counted y (run_kinds (job_of s) u later)) (sym count)));
             small = λ k. rw count (omega (arith, one_more counts (kind_number x) k, p.small k));
             keeps = done.keeps;
+            wide = same ∙ p.wide;
           }
 
     pub partly_end : rest ≡ [] → (counts ≡ counted counts₀ (run_kinds (job_of s) t₀ all)) × (t ≡ run_table (job_of s) t₀ all)

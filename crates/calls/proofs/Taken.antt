@@ -27,7 +27,7 @@ use Rattle.table.proofs.Sizes.{zeros_at}
 use Rattle.turn.specs.Turn.{kind_number, run_kinds}
 use Rattle.turn.specs.declared.Kind.{Kind}
 use Rattle.turn.specs.declared.Kind.TheVariants.{Idle, Woke, Opened, Waits, Took, Passed, Completed, Answered}
-use Rattle.calls.specs.Calls.{answered, check_turn_worker, check_schedule, check_claim_read, start_check, start_table, turn_check, turn_answer, turn_table, counted, tally, run_check, run_left, read_check, read_answer}
+use Rattle.calls.specs.Calls.{answered, check_turn_worker, check_schedule, check_claim_read, start_check, start_table, turn_check, turn_answer, turn_table, counted, tally, run_tally, run_check, run_left, read_check, read_answer}
 use Rattle.calls.specs.Taken.{how_many, Tallied, Started, Taken}
 
 number-low : (k : Kind) → kind_number k < 8
@@ -85,13 +85,13 @@ module _ (s t : List ℕ) (e : Accepted ≡ check_job s) where
     last x q = sym (go _ _ refl e (go _ _ refl f q))
 
     pub taken : Taken s t
-    unfolding answered turn_check turn_table check_turn_worker run_check run_left check_schedule read_check check_claim_read job_of
+    unfolding answered turn_check turn_table check_turn_worker run_check run_tally run_left check_schedule read_check check_claim_read job_of
     taken =
         record {
           turns = λ w l. let q = last (check_turn_worker s w) (pass _ _ _ _ (not_below-no _ _ l) refl) in (ap (λ (x : Check). turn_answer x s t w) q, ap (λ (x : Check). turn_table x s t w) q);
           no_turn = λ w l. let q = last (check_turn_worker s w) (stop _ _ _ _ (not_below-yes _ _ l)) in (ap (λ (x : Check). turn_answer x s t w) q, ap (λ (x : Check). turn_table x s t w) q);
-          runs = λ ws l. let q = last (check_schedule s ws) (scan_none _ _ _ _ (λ i h. not_below-no _ _ (l i h))) in (ap (λ (x : Check). answered x (tally (run_kinds (job_of s) t ws))) q, ap (λ (x : Check). run_left x s t ws) q, tallied _);
-          no_run = λ ws i h b l. let q = last (check_schedule s ws) (scan_at _ _ i _ _ h (λ k m. not_below-no _ _ (l k m)) (not_below-yes _ _ b)) in (ap (λ (x : Check). answered x (tally (run_kinds (job_of s) t ws))) q, ap (λ (x : Check). run_left x s t ws) q);
+          runs = λ ws l. let q = last (check_schedule s ws) (scan_none _ _ _ _ (λ i h. not_below-no _ _ (l i h))) in (ap (λ (x : Check). answered x (tally (run_kinds (job_of s) t ws))) q, ap (λ (x : Check). run_left x s t ws) q, tallied _, ap (λ (x : Check). run_tally x s t ws) q);
+          no_run = λ ws i h b l. let q = last (check_schedule s ws) (scan_at _ _ i _ _ h (λ k m. not_below-no _ _ (l k m)) (not_below-yes _ _ b)) in (ap (λ (x : Check). answered x (tally (run_kinds (job_of s) t ws))) q, ap (λ (x : Check). run_left x s t ws) q, ap (λ (x : Check). run_tally x s t ws) q);
           reads = λ c l. ap (λ (x : Check). read_answer x t c) (last (check_claim_read s c) (pass _ _ _ _ (not_below-no _ _ l) refl));
           no_read = λ c l. ap (λ (x : Check). read_answer x t c) (last (check_claim_read s c) (stop _ _ _ _ (not_below-yes _ _ l)));
         }

@@ -15,7 +15,7 @@ use Rattle.job.specs.Checks.{check_job, check_header, check_parts, check_length,
 use Rattle.job.specs.Encoding.{◌∈◌, encode, header_bytes, length_of}
 use Rattle.job.specs.Check.{Check, Accepted}
 use Rattle.job.specs.declared.Refusal.{Refusal}
-use Rattle.std.specs.Prelude.{Result, Err, IfOk}
+use Rattle.std.specs.Prelude.{Result, Err, IfOk, IfErr, replicate}
 use Rattle.semantics.proofs.Fields.{mapped_at}
 use Rattle.table.specs.Questions.{positions_of, asked_by}
 use Rattle.table.specs.Layout.{header}
@@ -25,7 +25,7 @@ use Rattle.table.specs.Ranges.{each, check_room, marked, check_claim, check_work
 use Rattle.turn.specs.Turn.{run_table, run_kinds}
 use Rattle.turn.specs.Worked.{Case, cases}
 use Rattle.turn.proofs.Worked.{turns_right}
-use Rattle.calls.specs.Calls.{answered, check_schedule, run_check, tally, run_left, Ran, run_answer}
+use Rattle.calls.specs.Calls.{answered, check_schedule, run_check, tally, run_tally, run_left, Ran, run_answer}
 use Rattle.calls.specs.Worked.{CasesRight, Worked}
 
 cases-accepted : map (λ c. run_check (encode c.job) c.before c.schedule) cases ≡ map (λ c. Accepted) cases
@@ -49,5 +49,11 @@ module _ (s t ws : List ℕ) where
   stated {r} {u} (Err refusal) m c i j b w = rw m.answer_is tt
   stated {r} {u} Accepted m c i j b w = rw m.answer_is (ap tally (rw (j, b, w) (case-kinds c i)), m.table_is ∙ rw (j, b, w) (case_left c i))
 
+  -- the tally that goes with its answer
+  tally-of : {r : Result (List ℕ) Refusal} (k : Check) → r ≡ answered k (tally (run_kinds (job_of s) t ws)) → IfOk r (λ counts. run_tally k s t ws ≡ counts) × IfErr r (λ refusal. run_tally k s t ws ≡ replicate 8 0)
+  unfolding answered run_tally
+  tally-of {r} (Err refusal) e = rw e (tt, refl)
+  tally-of {r} Accepted e = rw e (refl, tt)
+
   pub worked-answer : {r : Result (List ℕ) Refusal} {u : List ℕ} → Ran (run_check s t ws) s t ws r u → (r ≡ run_answer s t ws) × (u ≡ run_left (run_check s t ws) s t ws) × Worked s t ws r u
-  worked-answer m = (m.answer_is, m.table_is, record { right = cases_right; made = stated (run_check s t ws) m })
+  worked-answer m = let n = tally-of (run_check s t ws) m.answer_is in (m.answer_is, m.table_is, record { right = cases_right; made = stated (run_check s t ws) m; counts = n.0; none = n.1 })

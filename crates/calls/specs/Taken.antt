@@ -4,7 +4,7 @@
 --   Tallied ks       the tally of these kinds: eight counts, each of one kind
 --   Started s t      starting: a table that is long enough gets its header and zeros, a shorter one is refused
 --   Taken s t        the calls on a table t of job s
-use Rattle.std.specs.Prelude.{ℕ, ◌+◌, ◌≤◌, ◌<◌, ◌≡◌, List, [], ◌∷◌, eqb, length, get_or, Ok}
+use Rattle.std.specs.Prelude.{ℕ, ◌+◌, ◌≤◌, ◌<◌, ◌≡◌, List, [], ◌∷◌, eqb, length, get_or, replicate, Ok}
 use Rattle.base.specs.Choose.{pick}
 use Rattle.job.specs.Format.{job_of}
 use Rattle.job.specs.Check.{Accepted, Refused}
@@ -13,7 +13,7 @@ use Rattle.table.specs.Start.{start_words}
 use Rattle.table.specs.Reading.{reading_of}
 use Rattle.turn.specs.Turn.{kind_number, turn, run_table, run_kinds}
 use Rattle.turn.specs.declared.Kind.{Kind}
-use Rattle.calls.specs.Calls.{refused, start_check, start_table, turn_check, turn_answer, turn_table, tally, run_check, run_answer, run_left, read_check, read_answer}
+use Rattle.calls.specs.Calls.{refused, start_check, start_table, turn_check, turn_answer, turn_table, tally, run_tally, run_check, run_answer, run_left, read_check, read_answer}
 
 unfoldable pub how_many : ℕ → List Kind → ℕ
 how_many n [] = 0
@@ -43,10 +43,11 @@ pub record Taken (s t : List ℕ) : Type 0 where
       → (run_answer s t ws ≡ Ok (tally (run_kinds (job_of s) t ws)))
       × (run_left (run_check s t ws) s t ws ≡ run_table (job_of s) t ws)
       × Tallied (run_kinds (job_of s) t ws)
-  -- the first byte that names no worker is its place
+      × (run_tally (run_check s t ws) s t ws ≡ tally (run_kinds (job_of s) t ws))
+  -- the first byte that names no worker is its place, and no turn is counted
   pub no_run :
       (ws : List ℕ) (i : ℕ) → i < length ws → (job_of s).workers ≤ get_or ws i 0 → ((k : ℕ) → k < i → get_or ws k 0 < (job_of s).workers)
-      → (run_answer s t ws ≡ refused 11 i) × (run_left (run_check s t ws) s t ws ≡ t)
+      → (run_answer s t ws ≡ refused 11 i) × (run_left (run_check s t ws) s t ws ≡ t) × (run_tally (run_check s t ws) s t ws ≡ replicate 8 0)
   -- "Reading a claim answers fresh, open or its value."
   pub reads : (c : ℕ) → c < (job_of s).claims → read_answer (read_check s t c) t c ≡ Ok (reading_of (mark t c))
   pub no_read : (c : ℕ) → (job_of s).claims ≤ c → read_answer (read_check s t c) t c ≡ refused 12 0

@@ -75,7 +75,7 @@ pub fn turn(job: &[u8], table: &mut [u32], worker: usize) -> Result<Kind, Refusa
     let accepted = Job::of_accepted(job);
     // An array of its own: an index that a function answers would be copied, 10 KB of stack.
     let mut index = [0u16; claims::INDEX_ENTRIES];
-    claims::fill_index(job, &mut index);
+    accepted.fill_index(&mut index);
     let counts = questions::count_questions(&accepted);
     turn_accepted(&accepted, &index, &counts, table, worker)
 }
@@ -120,7 +120,8 @@ pub fn run(job: &[u8], table: &mut [u32], schedule: &[u8]) -> Result<[u64; 8], R
 {
     job::checks::check_job(job)?;
     let accepted = Job::of_accepted(job);
-    let index = accepted.index_claims();
+    let mut index = [0u16; claims::INDEX_ENTRIES];
+    accepted.fill_index(&mut index);
     let counts = questions::count_questions(&accepted);
     run_accepted(&accepted, &index, &counts, table, schedule)
 }
@@ -152,7 +153,8 @@ pub fn read(job: &[u8], table: &[u32], claim: usize) -> Result<Reading, Refusal>
 {
     job::checks::check_job(job)?;
     let accepted = Job::of_accepted(job);
-    let index = accepted.index_claims();
+    let mut index = [0u16; claims::INDEX_ENTRIES];
+    accepted.fill_index(&mut index);
     let counts = questions::count_questions(&accepted);
     read_accepted(&accepted, &index, &counts, table, claim)
 }

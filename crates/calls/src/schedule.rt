@@ -7,7 +7,7 @@ ghost use Rattle.table.specs.Questions.{Listed};
 ghost use Rattle.turn.specs.Turn.{run_table, run_kinds};
 ghost use Rattle.calls.specs.Calls.{Named, check_schedule, tally as tally_of};
 ghost use Rattle.turn.specs.Ready.{Ready};
-ghost use Rattle.turn.specs.KeptSet.{Keeps};
+ghost use Rattle.turn.specs.KeptSet.{SameRoom, Keeps};
 
 use crate::tally;
 use job::checks::MOST_CLAIMS;
@@ -23,13 +23,14 @@ fn run_in(
     asked: &QuestionIndex,
     table: &mut [u32],
     schedule: &[u8],
-    set: &mut HeldSet<'_>,
+    set: &mut HeldSet<'_, '_>,
 ) -> [u64; 8]
     requires ready { Ready job.now index.now table.old × Listed (job_of job.now) asked.now }
     requires named { Named job.now schedule.now }
     requires keeps { Keeps (job_of job.now) table.old set.old.kept set.old.place.now set.old.members.now }
     ensures value { result ≡ tally_of (run_kinds (job_of job.now) table.old schedule.now) }
     ensures table_after { table.new ≡ run_table (job_of job.now) table.old schedule.now }
+    ensures same_room { SameRoom set.old set.new }
 {
     let mut counts = [0u64; 8];
     for &worker in schedule {

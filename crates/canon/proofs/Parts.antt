@@ -1,5 +1,4 @@
 -- The four parts of an encoding, written one after the other. Assumes nothing.
---   encode_size   the bytes of an encoding, by its counts
 --   records-room, bodies-room, asks-room   each part has room behind those before it
 --   joined        all parts written one after the other
 use Prim.Native.Nat.{ℕ, ◌+◌, ◌*◌}

@@ -124,8 +124,14 @@ pub fn put_form(
     requires room { HasRoom out.old (length (encode (form (job_of job.now)))) }
     ensures { Writes out.old out.new (encode (form (job_of job.now))) }
 {
-    put_counts(out, job, sizes, order);
-    put_records(out, job, sizes, order);
-    put_bodies(out, s, starts, sizes, order);
-    put_questions(out, job);
+    // A writer of its own, so that buffer and place need not be stored and read again for each byte.
+    let mut form = Writer {
+        buf: out.buf,
+        at: out.at,
+    };
+    put_counts(&mut form, job, sizes, order);
+    put_records(&mut form, job, sizes, order);
+    put_bodies(&mut form, s, starts, sizes, order);
+    put_questions(&mut form, job);
+    out.at = form.at;
 }

@@ -1,4 +1,5 @@
 -- Queues of keys, and the positions that are pending (specs/Queues: seen, pending). Assumes nothing.
+--   same_room-.. a queue in the array that it was in (SameRoom)
 --   seen-..      the keys of a queue; seen-place, seen-not   where one is, and that it is nowhere
 --   queue-room   a queue has room for a key that is not on it; queue_less   its first keys
 --   pending-..   a key's positions are walked from the last down; a key is pushed
@@ -20,7 +21,15 @@ use Rattle.base.proofs.Bools.{is, is-not, is_true, or_left, or_right, or_cases, 
 use Rattle.base.proofs.Counts.{count_more}
 use Rattle.base.proofs.Sets.{count-empty, count_le, count_less}
 use Rattle.counters.specs.Positions.{key_at}
-use Rattle.counters.specs.Queues.{seen, Queue, pending}
+use Rattle.counters.specs.Queues.{seen, Queue, SameRoom, pending}
+use Rattle.counters.specs.declared.key_queue.KeyQueue.{KeyQueue}
+
+-- the array that a queue is in
+pub same_room-none : (a : KeyQueue) → SameRoom a a
+same_room-none a = record { same = refl; long = refl }
+
+pub same_room-by : {a b c : KeyQueue} → SameRoom a b → SameRoom b c → SameRoom a c
+same_room-by p q = record { same = q.same ∙ p.same; long = q.long ∙ p.long }
 
 -- the keys of a queue
 module _ (q : List ℕ) where

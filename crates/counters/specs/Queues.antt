@@ -1,6 +1,7 @@
 -- Queues of keys (specs/Positions), which the evaluation takes one after the other.
 --   seen q i k           key k is among the first i of the queue q
 --   Queue n q t          a queue of t keys below n, each once
+--   SameRoom old new     a queue is in the array that it was in, which is as long as before
 --   pending s q t i x p  position p's key is on the queue and not taken yet, where the keys before place i are taken, and of the key at i
 --                        the positions from x on
 --   Joined c w q t ..    w, the queue and its length after claim c joined them, unless it was in w
@@ -11,6 +12,7 @@
 use Rattle.std.specs.Prelude.{ℕ, zero, suc, ◌+◌, ◌*◌, ◌<◌, ◌≤◌, ◌≡◌, Bool, true, false, not, cond, ◌&&◌, ◌||◌, List, T, ltb, eqb, length, get_or, set}
 use Rattle.base.specs.Sets.{Claims, ◌⊆◌, set_of}
 use Rattle.counters.specs.Positions.{key_at}
+use Rattle.counters.specs.declared.key_queue.KeyQueue.{KeyQueue}
 
 unfoldable pub seen : List ℕ → ℕ → Claims
 seen q zero k = false
@@ -20,6 +22,10 @@ pub record Queue (n : ℕ) (q : List ℕ) (t : ℕ) : Type 0 where
   pub long : n ≤ length q
   pub fresh : (j : ℕ) → j < t → seen q j (get_or q j 0) ≡ false
   pub small : (j : ℕ) → j < t → get_or q j 0 < n
+
+pub record SameRoom (old new : KeyQueue) : Type 0 where
+  pub same : new.keys.ghost_name ≡ old.keys.ghost_name
+  pub long : length new.keys.now ≡ length old.keys.now
 
 unfoldable pub pending : List ℕ → List ℕ → ℕ → ℕ → ℕ → ℕ → Bool
 pending s q t i x p =

@@ -1,20 +1,18 @@
 // A job with the tables that its evaluation makes and then reads. The contracts cite specs/Positions.
 ghost use Rattle.std.specs.Prelude.{◌≡◌, ◌+◌, ◌-◌, ◌<◌, get_or, take, drop};
 ghost use Rattle.job.specs.Accepted.{WellFormed};
-ghost use Rattle.counters.specs.Positions.{keys, Placed, Ends};
+ghost use Rattle.counters.specs.Positions.{keys, Placed};
 
 use job::Job;
 
-// Where the places of each key start, the rules of its positions there, and one more than the last rule of each claim.
+// Where the places of each key start, and the rules of its positions there.
 #[derive(Clone, Copy)]
 pub struct Tables<'a> {
     pub job: &'a Job<'a>,
     pub start: &'a [u16],
     pub occ: &'a [u16],
-    pub tail: &'a [u16],
     ghost accepted: { WellFormed job.now },
     ghost placed: { Placed job.now start.now occ.now },
-    ghost ends: { Ends job.now tail.now },
 }
 
 impl<'a> Tables<'a> {

@@ -13,7 +13,7 @@ ghost use Rattle.groups.specs.Admission.{Admission};
 mod search;
 
 use job::checks::MOST_CLAIMS;
-use job::{Check, ClaimIndex, Job, Refusal, checks};
+use job::{Check, ClaimIndex, Job, Refusal, checks, claims};
 
 // Row 21, of an accepted job and lists of the right length.
 fn check_partners(job: &Job, index: &ClaimIndex, groups: &[u8], workers: &[u8]) -> Check
@@ -59,6 +59,7 @@ pub fn admit(job: &[u8], groups: &[u8], workers: &[u8]) -> Check
     let accepted = Job::of_accepted(job);
     check_length(groups, accepted.claim_count())?;
     check_length(workers, accepted.worker_count())?;
-    let index = accepted.index_claims();
+    let mut index = [0u16; claims::INDEX_ENTRIES];
+    accepted.fill_index(&mut index);
     check_partners(&accepted, &index, groups, workers)
 }

@@ -3,12 +3,12 @@ ghost use Rattle.std.specs.Prelude.{◌≡◌, ◌&&◌, ◌+◌, ◌-◌, ◌^�
 ghost use Rattle.std.specs.Int.Bits.{bit_or};
 ghost use Rattle.base.specs.Compare.{under};
 ghost use Rattle.job.specs.Accepted.{WellFormed};
-ghost use Rattle.job.specs.Job.{claim_of, most_claims, most_literals};
-ghost use Rattle.job.specs.Format.{claims, rules, literals, rule_byte, head_at, literal_at};
+ghost use Rattle.job.specs.Job.{most_claims, most_literals};
+ghost use Rattle.job.specs.Format.{rule_byte, literal_byte, head_at, literal_at};
 ghost use Rattle.job.specs.Claims.{index_entries, Index, bound_at, end_in, moved, past_rule};
 
 use crate::checks::{MOST_CLAIMS, MOST_LITERALS};
-use crate::{ClaimIndex, Cursor, Job, Literal, format};
+use crate::{ClaimIndex, Cursor, Literal, format};
 
 // The index has a field for each claim and one more, and then a bit for each literal and one more, 16 to a field.
 const BOUNDS_AT: usize = MOST_CLAIMS + 1;
@@ -114,14 +114,13 @@ impl Cursor {
         self.end <= self.at
     }
 
-    // The current literal of the job.
-    pub fn current(self, job: &Job) -> Literal
-        requires { self.at < literals job.now }
-        ensures value { result ≡ literal_at job.now (rules job.now) self.at }
-        ensures below { claim_of result < claims job.now }
+    // The current literal, of a job with this many rules.
+    pub fn current(self, job: &[u8], rules: usize) -> Literal
+        requires { literal_byte rules self.at + 2 ≤ length job.now }
+        ensures { result ≡ literal_at job.now rules self.at }
     {
         let at = self.at;
-        job.literal_at(at)
+        format::literal_at(job, rules, at)
     }
 
     // The cursor past the current literal's rule.

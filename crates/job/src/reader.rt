@@ -1,10 +1,10 @@
 // A job whose bytes rows 1 to 8 accept, and its parts, each read at its place. The contracts see it as its bytes; they cite specs/Format and specs/Accepted.
-ghost use Rattle.std.specs.Prelude.{◌≡◌, ℕ, List, ◌+◌, ◌<◌, ◌≤◌, get_or};
+ghost use Rattle.std.specs.Prelude.{◌≡◌, ℕ, List, ◌+◌, ◌<◌, ◌≤◌, get_or, replicate};
 ghost use mathlib.Core.List.{flat_map};
 ghost use Rattle.base.specs.Number.{Number};
 ghost use Rattle.job.specs.Bytes.{Bytes, half};
 ghost use Rattle.job.specs.Accepted.{WellFormed, Parted};
-ghost use Rattle.job.specs.Claims.{Index};
+ghost use Rattle.job.specs.Claims.{index_entries, Index};
 ghost use Rattle.job.specs.Job.{claim_of};
 ghost use Rattle.job.specs.Format.{claims, rules, literals, workers, questions, head_at, missing_at, body_start, body_length_at, literal_byte, literal_at, question_at, job_of};
 ghost use Rattle.job.specs.Encoding.{question_bytes};
@@ -155,6 +155,24 @@ impl<'a> Job<'a> {
     {
         let _ = &self.bytes;
         Cursor::over(index, claim, passed)
+    }
+
+    // The current literal of a cursor.
+    pub fn current(&self, cursor: Cursor) -> Literal
+        requires { cursor.at < literals self.now }
+        ensures value { result ≡ literal_at self.now (rules self.now) cursor.at }
+        ensures below { claim_of result < claims self.now }
+        ensures accepted { WellFormed self.now }
+    {
+        cursor.current(self.bytes, self.rules)
+    }
+
+    // The index of claims, into an array of zeros of the caller's own.
+    pub fn fill_index(&self, index: &mut ClaimIndex)
+        requires zeros { index.old ≡ replicate index_entries 0 }
+        ensures { Index self.now index.new }
+    {
+        claims::fill_index(self.bytes, index);
     }
 
     pub fn index_claims(&self) -> ClaimIndex

@@ -103,27 +103,27 @@ module _ (j : Job) (t : List ℕ) where
 abbrev pub finishing : List ℕ → List ℕ → List ℕ
 finishing s t = finish_turns (most (job_of s)) (job_of s) t 0
 
-pub record Going (s t₀ counts₀ : List ℕ) (left w : ℕ) (t counts : List ℕ) (kept : Kept) (place members : List ℕ) : Type 0 where
+pub record Going (s t₀ counts₀ members₀ : List ℕ) (left w : ℕ) (t counts : List ℕ) (kept : Kept) (place members : List ℕ) : Type 0 where
   pub most : ℕ
-  pub part : Partly s t₀ counts₀ (finishing s t₀) most (finish_turns left (job_of s) t w) t counts kept place members
+  pub part : Partly s t₀ counts₀ (finishing s t₀) members₀ most (finish_turns left (job_of s) t w) t counts kept place members
   pub few : most + left ≤ 8589934592
   pub low : w < workers s
 
-module _ (s t₀ counts₀ : List ℕ) where
+module _ (s t₀ counts₀ members₀ : List ℕ) where
   pub going_start :
-      {index : List ℕ} → Ready s index t₀ → {kept : Kept} {place members : List ℕ} → Keeps (job_of s) t₀ kept place members
-      → ((k : ℕ) → get_or counts₀ k 0 < 4294967296) → {left : ℕ} → left ≡ most (job_of s) → left < 4294967296 → Going s t₀ counts₀ left 0 t₀ counts₀ kept place members
-  going_start r {kept} {place} {members} k few {left} is l =
+      {index : List ℕ} → Ready s index t₀ → {kept : Kept} {place : List ℕ} → Keeps (job_of s) t₀ kept place members₀
+      → ((k : ℕ) → get_or counts₀ k 0 < 4294967296) → {left : ℕ} → left ≡ most (job_of s) → left < 4294967296 → Going s t₀ counts₀ members₀ left 0 t₀ counts₀ kept place members₀
+  going_start r {kept} {place} k few {left} is l =
       record {
         most = 4294967296;
         part =
-            subst (λ (n : ℕ). Partly s t₀ counts₀ (finishing s t₀) 4294967296 (finish_turns n (job_of s) t₀ 0) t₀ counts₀ kept place members) (sym is)
-            (partly-start s t₀ counts₀ (finishing s t₀) r k refl (λ i. omega (arith, few i)));
+            subst (λ (n : ℕ). Partly s t₀ counts₀ (finishing s t₀) members₀ 4294967296 (finish_turns n (job_of s) t₀ 0) t₀ counts₀ kept place members₀) (sym is)
+            (partly-start s t₀ counts₀ (finishing s t₀) members₀ r k refl (λ i. omega (arith, few i)));
         few = omega arith;
         low = omega (arith, r.job.sized.workers_least);
       }
 
-  module _ {left w : ℕ} {t counts : List ℕ} {kept : Kept} {place members : List ℕ} (p : Going s t₀ counts₀ left w t counts kept place members) where
+  module _ {left w : ℕ} {t counts : List ℕ} {kept : Kept} {place members : List ℕ} (p : Going s t₀ counts₀ members₀ left w t counts kept place members) where
     pub going_none : left ≤ 0 → (counts ≡ counted counts₀ (run_kinds (job_of s) t₀ (finishing s t₀))) × (t ≡ run_table (job_of s) t₀ (finishing s t₀))
     going_none h = partly_end s p.part (turns_none (job_of s) t left w h)
 
@@ -132,15 +132,15 @@ module _ (s t₀ counts₀ : List ℕ) where
 
     pub going_on :
         WellFormed s → {rest : ℕ} → left ≡ rest + 1 → false ≡ answered_all (job_of s) t → {x : Kind} {k : Kept} {u place' members' : List ℕ} → Done (job_of s) (turn (job_of s) t w) x k u place' members'
-        → {next : List ℕ} → next ≡ set counts (kind_number x) (get_or counts (kind_number x) 0 + 1)
-        → {v : ℕ} → (v ≡ next_worker (job_of s) w) × (v < workers s) → Going s t₀ counts₀ rest v u next k place' members'
-    going_on good {rest} some more {x} {k} {u} done count {v} after =
+        → {next : List ℕ} → next ≡ set counts (kind_number x) (get_or counts (kind_number x) 0 + 1) → length members' ≡ length members
+        → {v : ℕ} → (v ≡ next_worker (job_of s) w) × (v < workers s) → Going s t₀ counts₀ members₀ rest v u next k place' members'
+    going_on good {rest} some more {x} {k} {u} done count same {v} after =
         let first : finish_turns left (job_of s) t w ≡ w ∷ finish_turns rest (job_of s) u v =
         turns_more (job_of s) t left rest w some more
         ∙ ap₂ (λ (y : List ℕ) (z : ℕ). w ∷ finish_turns rest (job_of s) y z) (sym done.made.table_is) (sym after.0) in
         record {
           most = p.most + 1;
-          part = partly_more s p.part good p.low done first count;
+          part = partly_more s p.part good p.low done first count same;
           few = omega (arith, p.few);
           low = after.1;
         }

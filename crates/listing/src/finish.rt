@@ -8,7 +8,7 @@ ghost use Rattle.table.specs.Ranges.{InRange};
 ghost use Rattle.turn.specs.Turn.{run_table, run_kinds};
 ghost use Rattle.calls.specs.Calls.{counted as counted_of};
 ghost use Rattle.turn.specs.Ready.{Ready};
-ghost use Rattle.turn.specs.KeptSet.{Keeps};
+ghost use Rattle.turn.specs.KeptSet.{SameRoom, Keeps};
 ghost use Rattle.listing.specs.Finish.{answered_all, next_worker, finish_turns, most};
 
 use calls::tally;
@@ -55,7 +55,7 @@ fn finish_in(
     asked: &QuestionIndex,
     table: &mut [u32],
     counts: [u64; 8],
-    set: &mut HeldSet<'_>,
+    set: &mut HeldSet<'_, '_>,
 ) -> [u64; 8]
     requires ready { Ready job.now index.now table.old }
     requires listed { Listed (job_of job.now) asked.now }
@@ -63,6 +63,7 @@ fn finish_in(
     requires keeps { Keeps (job_of job.now) table.old set.old.kept set.old.place.now set.old.members.now }
     ensures value { result ≡ counted_of counts (run_kinds (job_of job.now) table.old (finish_turns (most (job_of job.now)) (job_of job.now) table.old 0)) }
     ensures table_after { table.new ≡ run_table (job_of job.now) table.old (finish_turns (most (job_of job.now)) (job_of job.now) table.old 0) }
+    ensures same_room { SameRoom set.old set.new }
 {
     let mut so_far = counts;
     let mut w = 0;

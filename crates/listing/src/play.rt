@@ -9,8 +9,8 @@ ghost use Rattle.listing.specs.Listing.{most_input, played};
 
 use crate::finish;
 use calls::schedule;
-use job::Job;
 use job::checks::MOST_CLAIMS;
+use job::{Job, claims};
 use table::{questions, start};
 
 // Starts the table, takes the turns, and gives their tally.
@@ -22,7 +22,8 @@ pub fn play(job: &Job, named: &[u8], table: &mut [u32]) -> [u64; 8]
     ensures table_after { table.new ≡ run_table (job_of job.now) (start_words (job_of job.now) table.old) (played (job_of job.now) (start_words (job_of job.now) table.old) named.now) }
 {
     prove!(job.claim_count() <= MOST_CLAIMS);
-    let index = job.index_claims();
+    let mut index = [0u16; claims::INDEX_ENTRIES];
+    job.fill_index(&mut index);
     let counts = questions::count_questions(job);
     let asked = questions::index_questions(job, &counts);
     start::write_start(job, table);

@@ -49,24 +49,33 @@ fn evaluate_in(
     fail: &mut [u16],
     k: &mut [u8],
     u: &mut [u8],
-    queue: &mut KeyQueue<'_>,
-    list: &mut KeyQueue<'_>,
+    queue_keys: &mut [u16],
+    list_keys: &mut [u16],
     out: &mut [u8],
 )
-    requires unused { Unused job.now start.old occ.old tail.old need.old fail.old k.old u.old queue.old.keys.now list.old.keys.now }
+    requires unused { Unused job.now start.old occ.old tail.old need.old fail.old k.old u.old queue_keys.old list_keys.old }
     requires room { claims job.now ≤ length out.old }
     ensures { out.new ≡ output_of Accepted job.now out.old }
 {
     let claims = job.claim_count();
     prove!(k.len() == claims);
-    occurrences::prepare(job, start, occ, tail, need, fail);
+    // Values of its own, which no store into an array can reach: what the loops read of them stays in registers.
+    let own = Job::of_accepted(job.bytes());
+    let mut queue = KeyQueue {
+        keys: queue_keys,
+        len: 0,
+    };
+    let mut list = KeyQueue {
+        keys: list_keys,
+        len: 0,
+    };
+    occurrences::prepare(&own, start, occ, tail, need, fail);
     let tables = Tables {
-        job,
+        job: &own,
         start,
         occ,
-        tail,
     };
-    alternate::alternate(&tables, need, fail, k, u, queue, list);
+    alternate::alternate(&tables, tail, need, fail, k, u, &mut queue, &mut list);
     verdicts::write(k, u, out);
 }
 
@@ -92,14 +101,6 @@ fn evaluate_sized<
     let mut u = [0u8; CLAIMS];
     let mut queue_keys = [0u16; KEYS];
     let mut list_keys = [0u16; KEYS];
-    let mut queue = KeyQueue {
-        keys: &mut queue_keys,
-        len: 0,
-    };
-    let mut list = KeyQueue {
-        keys: &mut list_keys,
-        len: 0,
-    };
     evaluate_in(
         job,
         &mut start,
@@ -109,8 +110,8 @@ fn evaluate_sized<
         &mut fail,
         &mut k[..n],
         &mut u[..n],
-        &mut queue,
-        &mut list,
+        &mut queue_keys,
+        &mut list_keys,
         out,
     );
 }

@@ -9,6 +9,7 @@ use crate::claim::Section::{Literals, Records};
 use crate::claim::{self, Section};
 use crate::component::Component;
 use fields::header::{self, Counts};
+use job::Job;
 use writing::Writer;
 
 // Where the rule records stand.
@@ -19,9 +20,23 @@ fn put_claims(part: &Component, section: Section, out: &mut Writer)
     requires { HasRoom out.old (length (part_texts section part.now.job.now part.now.table.now part.now.place.now part.now.members.now)) }
     ensures { Writes out.old out.new (part_texts section part.now.job.now part.now.table.now part.now.place.now part.now.members.now) }
 {
+    // A job, a part and a writer of its own, so that their fields need not be read again for each literal.
+    let job = Job::of_accepted(part.job.bytes());
+    let part = Component {
+        job: &job,
+        index: part.index,
+        table: part.table,
+        place: part.place,
+        members: part.members,
+    };
+    let mut texts = Writer {
+        buf: out.buf,
+        at: out.at,
+    };
     for (i, &member) in part.members.iter().enumerate() {
-        claim::put_claim(part, i, usize::from(member), section, out);
+        claim::put_claim(&part, i, usize::from(member), section, &mut texts);
     }
+    out.at = texts.at;
 }
 
 // The part, of one worker and no questions; its length. The counts of rules and literals are known once these are written.

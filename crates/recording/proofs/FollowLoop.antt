@@ -6,7 +6,7 @@ use mathlib.Core.Path.{◌≡◌, refl, sym, ◌∙◌, ap}
 use mathlib.Core.Bool.{false}
 use mathlib.Core.List.{List, ◌∷◌}
 use native.Mathlib.Omega.{arith}
-use lib.ListN.{get_or, set, drop, replicate, length-drop, drop_of_length-le}
+use lib.ListN.{length, get_or, set, drop, replicate, length-drop, drop_of_length-le}
 use Rattle.base.proofs.Zeros.{zeros_at}
 use Rattle.job.specs.Format.{workers, job_of}
 use Rattle.job.specs.Accepted.{WellFormed}
@@ -24,20 +24,20 @@ use Rattle.records.proofs.Pairs.{workers-length, workers_at, pair_at, gives-yes,
 use Rattle.records.proofs.Restarted.{start-turn}
 use Rattle.recording.specs.Following.{FollowedTo}
 
-pub record Following (s t₀ r : List ℕ) (i : ℕ) (t counts : List ℕ) (kept : Kept) (place members : List ℕ) : Type 0 where
-  pub part : Partly s t₀ (replicate 8 0) (workers_in r) i (drop i (workers_in r)) t counts kept place members
+pub record Following (s t₀ r members₀ : List ℕ) (i : ℕ) (t counts : List ℕ) (kept : Kept) (place members : List ℕ) : Type 0 where
+  pub part : Partly s t₀ (replicate 8 0) (workers_in r) members₀ i (drop i (workers_in r)) t counts kept place members
   pub within : i ≤ pairs r
   pub holding : held (job_of s) t₀ r ≡ i + held (job_of s) t (drop (2 * i) r)
   pub again : start_words (job_of s) t ≡ start_words (job_of s) t₀
 
-module _ (s t₀ r : List ℕ) where
+module _ (s t₀ r members₀ : List ℕ) where
   pub following-start :
-      {index : List ℕ} → Ready s index t₀ → {kept : Kept} {place members : List ℕ} → Keeps (job_of s) t₀ kept place members
-      → {counts : List ℕ} → counts ≡ replicate 8 0 → Following s t₀ r 0 t₀ counts kept place members
+      {index : List ℕ} → Ready s index t₀ → {kept : Kept} {place : List ℕ} → Keeps (job_of s) t₀ kept place members₀
+      → {counts : List ℕ} → counts ≡ replicate 8 0 → Following s t₀ r members₀ 0 t₀ counts kept place members₀
   following-start a q z =
-      record { part = partly-start s t₀ (replicate 8 0) (workers_in r) a q z (λ k. omega (arith, zeros_at 8 z k)); within = omega arith; holding = omega arith; again = refl }
+      record { part = partly-start s t₀ (replicate 8 0) (workers_in r) members₀ a q z (λ k. omega (arith, zeros_at 8 z k)); within = omega arith; holding = omega arith; again = refl }
 
-  module _ (good : WellFormed s) {i : ℕ} {t counts : List ℕ} {kept : Kept} {place members : List ℕ} (f : Following s t₀ r i t counts kept place members) (some : i < pairs r) {w : ℕ} (named : w ≡ get_or r (2 * i) 0) where
+  module _ (good : WellFormed s) {i : ℕ} {t counts : List ℕ} {kept : Kept} {place members : List ℕ} (f : Following s t₀ r members₀ i t counts kept place members) (some : i < pairs r) {w : ℕ} (named : w ≡ get_or r (2 * i) 0) where
     here : held (job_of s) t (drop (2 * i) r) ≡ held (job_of s) t (get_or r (2 * i) 0 ∷ get_or r (2 * i + 1) 0 ∷ drop (2 * (i + 1)) r)
     here = ap (held (job_of s) t) (pair_at r i some)
 
@@ -73,21 +73,21 @@ module _ (s t₀ r : List ℕ) where
 
       pub following-more :
           kind_number x ≡ get_or r (2 * i + 1) 0 → {next : List ℕ} → next ≡ set counts (kind_number x) (get_or counts (kind_number x) 0 + 1)
-          → Following s t₀ r (i + 1) u next k place' members'
+          → length members' ≡ length members → Following s t₀ r members₀ (i + 1) u next k place' members'
       unfolding job_of
-      following-more is count =
+      following-more is count same =
           let g = gives-yes (job_of s) t (get_or r (2 * i) 0) (get_or r (2 * i + 1) 0) (omega (arith, named)) (sym is ∙ kind-is) in
           let next-held : held (job_of s) t (drop (2 * i) r) ≡ suc (held (job_of s) u (drop (2 * (i + 1)) r)) =
           here ∙ (held_more (job_of s) t _ _ _ g ∙ ap (λ (y : List ℕ). suc (held (job_of s) y (drop (2 * (i + 1)) r))) (ap (λ (v : ℕ). (turn (job_of s) t v).table) (sym named) ∙ sym done.made.table_is)) in
           record {
-            part = partly_more s f.part good low done (named-next (workers_in r) (omega (arith, workers-length r)) (named ∙ sym (workers_at r i some))) count;
+            part = partly_more s f.part good low done (named-next (workers_in r) (omega (arith, workers-length r)) (named ∙ sym (workers_at r i some))) count same;
             within = omega arith;
             holding = omega (arith, f.holding, next-held);
             again = restart;
           }
 
   pub following-all :
-      {i : ℕ} {t counts : List ℕ} {kept : Kept} {place members : List ℕ} → Following s t₀ r i t counts kept place members → {n : ℕ} → n ≡ pairs r → n ≤ i
+      {i : ℕ} {t counts : List ℕ} {kept : Kept} {place members : List ℕ} → Following s t₀ r members₀ i t counts kept place members → {n : ℕ} → n ≡ pairs r → n ≤ i
       → FollowedTo s t₀ r (record { held = n; tally = counts }) t
   unfolding tally
   following-all {i} {t} {counts} f {n} e h =

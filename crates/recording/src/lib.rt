@@ -18,7 +18,7 @@ mod replaying;
 
 use calls::schedule;
 use job::checks::MOST_CLAIMS;
-use job::{Check, Job, Refusal};
+use job::{Check, Job, Refusal, claims};
 use records::Stopped;
 use table::{questions, start};
 
@@ -52,7 +52,8 @@ fn record_accepted(job: &Job, table: &mut [u32], schedule: &[u8], buffer: &mut [
     ensures { Recorded Accepted job.now table.old schedule.now buffer.old (Ok result) table.new buffer.new }
 {
     prove!(job.claim_count() <= MOST_CLAIMS);
-    let index = job.index_claims();
+    let mut index = [0u16; claims::INDEX_ENTRIES];
+    job.fill_index(&mut index);
     let counts = questions::count_questions(job);
     let asked = questions::index_questions(job, &counts);
     start::write_start(job, table);
@@ -83,7 +84,8 @@ fn replay_accepted(job: &Job, table: &mut [u32], log: &[u8]) -> Result<[u64; 8],
     ensures { Replayed Accepted job.now table.old log.now result table.new }
 {
     prove!(job.claim_count() <= MOST_CLAIMS);
-    let index = job.index_claims();
+    let mut index = [0u16; claims::INDEX_ENTRIES];
+    job.fill_index(&mut index);
     let counts = questions::count_questions(job);
     let asked = questions::index_questions(job, &counts);
     start::write_start(job, table);

@@ -5,7 +5,7 @@ ghost use Rattle.job.specs.Job.{most_claims};
 ghost use Rattle.table.specs.Questions.{Listed};
 ghost use Rattle.turn.specs.Turn.{kind_number, run_table, run_kinds};
 ghost use Rattle.turn.specs.Ready.{Ready};
-ghost use Rattle.turn.specs.KeptSet.{Keeps};
+ghost use Rattle.turn.specs.KeptSet.{SameRoom, Keeps};
 ghost use Rattle.calls.specs.Calls.{Named, tally as tally_of};
 ghost use Rattle.writing.specs.Writes.{Writes, HasRoom};
 ghost use Rattle.records.specs.Record.{record_of};
@@ -35,7 +35,7 @@ fn record_in(
     table: &mut [u32],
     schedule: &[u8],
     buffer: &mut [u8],
-    set: &mut HeldSet<'_>,
+    set: &mut HeldSet<'_, '_>,
 ) -> [u64; 8]
     requires ready { Ready job.now index.now table.old × Listed (job_of job.now) asked.now }
     requires named { Named job.now schedule.now }
@@ -44,6 +44,7 @@ fn record_in(
     ensures value { result ≡ tally_of (run_kinds (job_of job.now) table.old schedule.now) }
     ensures table_after { table.new ≡ run_table (job_of job.now) table.old schedule.now }
     ensures buffer_after { buffer.new ≡ record_of (job_of job.now) table.old schedule.now ++ drop (2 * length schedule.now) buffer.old }
+    ensures same_room { SameRoom set.old set.new }
 {
     let mut counts = [0u64; 8];
     let mut record = Writer::new(buffer);

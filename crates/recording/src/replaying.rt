@@ -4,7 +4,7 @@ ghost use Rattle.job.specs.Format.{claims, job_of};
 ghost use Rattle.job.specs.Job.{most_claims};
 ghost use Rattle.table.specs.Questions.{Listed};
 ghost use Rattle.turn.specs.Ready.{Ready};
-ghost use Rattle.turn.specs.KeptSet.{Keeps};
+ghost use Rattle.turn.specs.KeptSet.{SameRoom, Keeps};
 ghost use Rattle.recording.specs.Following.{FollowedTo};
 
 use crate::Followed;
@@ -22,11 +22,12 @@ fn follow_in(
     asked: &QuestionIndex,
     table: &mut [u32],
     log: &[u8],
-    set: &mut HeldSet<'_>,
+    set: &mut HeldSet<'_, '_>,
 ) -> Followed
     requires ready { Ready job.now index.now table.old × Listed (job_of job.now) asked.now }
     requires keeps { Keeps (job_of job.now) table.old set.old.kept set.old.place.now set.old.members.now }
-    ensures { FollowedTo job.now table.old log.now result table.new }
+    ensures followed { FollowedTo job.now table.old log.now result table.new }
+    ensures same_room { SameRoom set.old set.new }
 {
     let workers = job.worker_count();
     let pairs = log.len() / 2;

@@ -27,7 +27,7 @@ use Rattle.turn.proofs.Jobs.{job_ok}
 use Rattle.steps.specs.Agreeing.{Agree}
 use Rattle.steps.proofs.Starting.{start-length, start-started, started_range}
 use Rattle.steps.proofs.SameTurns.{run-alike, start_agree}
-use Rattle.calls.specs.Calls.{Named, start_check, start_table, check_schedule, tally, run_check, run_answer, run_left}
+use Rattle.calls.specs.Calls.{Named, start_check, start_table, check_schedule, tally, run_tally, run_check, run_answer, run_left}
 use Rattle.calls.specs.Lists.{after}
 use Rattle.calls.specs.Promise.{Fresh}
 use Rattle.calls.proofs.Histories.{low_all}
@@ -105,9 +105,9 @@ module _ (s : List ℕ) (e : Accepted ≡ check_job s) where
         let m = sym (refused-row (under h (pairs r)) 24 h 24 k (sym (by-pairs s t (sym e) room r n) ∙ a)).1 in
         (ap (λ (x : Check). replay_table x s t r) q ∙ ap (λ (x : ℕ). run_table j (started s t) (take x (workers_in r))) m, ap (λ (x : Check). replay_tally x s t r) q ∙ ap (λ (x : ℕ). tally (run_kinds j (started s t) (take x (workers_in r)))) m)
 
-    pub runs : (ws : List ℕ) → Named s ws → (start_table (start_check s t) s t ≡ started s t) × (run_answer s (started s t) ws ≡ Ok (record_tally Accepted s t ws)) × (run_left (run_check s (started s t) ws) s (started s t) ws ≡ record_table Accepted s t ws)
+    pub runs : (ws : List ℕ) → Named s ws → (start_table (start_check s t) s t ≡ started s t) × (run_answer s (started s t) ws ≡ Ok (record_tally Accepted s t ws)) × (run_left (run_check s (started s t) ws) s (started s t) ws ≡ record_table Accepted s t ws) × (run_tally (run_check s (started s t) ws) s (started s t) ws ≡ record_tally Accepted s t ws)
     unfolding after record_tally record_table job_of
-    runs ws f = let r = ((promise s e).taken t room []).runs ws f in ((((promise s e).starts t).long room).1, r.0, r.1)
+    runs ws f = let r = ((promise s e).taken t room []).runs ws f in ((((promise s e).starts t).long room).1, r.0, r.1, r.3)
 
     -- the table is started once
     check-once : start_check s (started s t) ≡ start_check s t

@@ -16,7 +16,7 @@ use Rattle.table.specs.Start.{start_words}
 use Rattle.turn.specs.Turn.{kind_number, turn, run_table, run_kinds}
 use Rattle.turn.specs.declared.Kind.TheVariants.{Idle}
 use Rattle.steps.specs.Agreeing.{Agree}
-use Rattle.calls.specs.Calls.{Named, start_check, start_table, tally, run_check, run_answer, run_left}
+use Rattle.calls.specs.Calls.{Named, start_check, start_table, tally, run_tally, run_check, run_answer, run_left}
 use Rattle.calls.specs.Lists.{Call}
 use Rattle.calls.specs.Promise.{Fresh, Promise}
 use Rattle.records.specs.Record.{record_of, workers_in}
@@ -95,6 +95,7 @@ pub record OnRecord (s : List ℕ) : Type 0 where
       → (start_table (start_check s t) s t ≡ started s t)
       × (run_answer s (started s t) ws ≡ Ok (record_tally Accepted s t ws))
       × (run_left (run_check s (started s t) ws) s (started s t) ws ≡ record_table Accepted s t ws)
+      × (run_tally (run_check s (started s t) ws) s (started s t) ws ≡ record_tally Accepted s t ws)
   -- the table is started once: on one that is started already the run gives what it gives on the table as it was lent
   pub once :
       (t ws buf : List ℕ) → Fresh s t

@@ -5,7 +5,7 @@ ghost use Rattle.std.specs.Prelude.{◌≡◌, replicate};
 
 use job::Refusal;
 
-// Why a replay stops: its refusal, and how many turns of each kind the table then holds, which are none but at a false pair (row 24).
+// Why a replay stops: its refusal, and how many turns of each kind it made, which are none but at a false pair (row 24): there those before the pair.
 #[derive(Clone, Copy, Debug, PartialEq, Eq)]
 pub struct Stopped {
     pub refusal: Refusal,

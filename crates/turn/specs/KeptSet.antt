@@ -2,6 +2,7 @@
 --   Kept (declared in src/lib.rt)   `from`: the claim whose reached claims are kept, if any are; `count`: how many they are;
 --                       `chosen`: the claim C that was found, and the worker for whom, if one is known
 --   HeldSet (declared there)        Kept, and the room for its members and their places
+--   SameRoom a b        the set b has the room of a: the same two arrays, each as long as before
 --   word_of o           a claim that was found, as a table's words have it: it + 1, or 0 for none
 --   held k place members   its members and their places
 --   Member members n d  d is one of the first n members
@@ -26,11 +27,18 @@ use Rattle.turn.specs.Turn.{Turned, lits, leads, reached, completed_mark}
 use Rattle.turn.specs.Gather.{Work, Gathered}
 use Rattle.turn.specs.Ready.{Made, Renewed, passed_in}
 use Rattle.turn.specs.declared.Chosen.{Chosen}
+use Rattle.turn.specs.declared.HeldSet.{HeldSet}
 use Rattle.turn.specs.declared.Kept.{Kept}
 use Rattle.turn.specs.declared.Kind.{Kind}
 
 abbrev pub held : Kept → List ℕ → List ℕ → Work
 held k place members = record { place = place; members = members; top = k.count }
+
+pub record SameRoom (a b : HeldSet) : Type 0 where
+  pub same_place : b.place.ghost_name ≡ a.place.ghost_name
+  pub same_members : b.members.ghost_name ≡ a.members.ghost_name
+  pub place_long : length b.place.now ≡ length a.place.now
+  pub members_long : length b.members.now ≡ length a.members.now
 
 pub record Member (members : List ℕ) (n d : ℕ) : Type 0 where
   pub at : ℕ

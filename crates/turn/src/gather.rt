@@ -44,7 +44,7 @@ fn expand(
     let mut cursor = from;
     let mut top = bottom;
     while !cursor.at_end() {
-        let literal = cursor.current(job);
+        let literal = job.current(cursor);
         top = visit(table, format::claim_of(literal), place, members, top);
         cursor = failing::moved_on(index, table, literal, cursor);
     }

@@ -6,7 +6,7 @@ ghost use Rattle.job.specs.Format.{claims, job_of};
 ghost use Rattle.table.specs.Layout.{fresh};
 ghost use Rattle.turn.specs.Ready.{Ready};
 ghost use Rattle.turn.specs.Gather.{Gathered};
-ghost use Rattle.turn.specs.KeptSet.{Member, held, Keeps, Lacking, Places, OwnsAll, Marked};
+ghost use Rattle.turn.specs.KeptSet.{SameRoom, Member, held, Keeps, Lacking, Places, OwnsAll, Marked};
 
 use crate::{HeldSet, Kept, gather, marks, remaining};
 use job::{ClaimIndex, Job};
@@ -24,13 +24,14 @@ impl Kept {
     }
 }
 
-impl<'a> HeldSet<'a> {
+impl<'a, 'b> HeldSet<'a, 'b> {
     // Nothing is kept yet: that is right of every table of a job for whose claims there is room.
-    pub fn new(place: &'a mut [u16], members: &'a mut [u16]) -> HeldSet<'a>
+    pub fn new(place: &'a mut [u16], members: &'b mut [u16]) -> HeldSet<'a, 'b>
         requires zeros { (c : ℕ) → get_or place.old c 0 ≡ 0 }
         ensures keeps { (j : Terms) (t : List ℕ) → j.claims ≤ most_claims → length place.old ≡ j.claims → j.claims ≤ length members.old → Keeps j t result.kept result.place.now result.members.now }
         ensures room { (result.place.now ≡ place.old) × (result.members.now ≡ members.old) }
         ensures kept { result.kept ≡ record { from = None; count = 0; chosen = None } }
+        ensures same_room { (result.place.ghost_name ≡ place.entry.ghost_name) × (result.members.ghost_name ≡ members.entry.ghost_name) }
     {
         HeldSet {
             kept: Kept::nothing(),
@@ -45,6 +46,7 @@ impl<'a> HeldSet<'a> {
         ensures kept { self.new.kept ≡ record { from = None; count = 0; chosen = None } }
         ensures zeros { (c : ℕ) → get_or self.new.place.now c 0 ≡ 0 }
         ensures room { (length self.new.place.now ≡ length self.old.place.now) × (self.new.members.now ≡ self.old.members.now) }
+        ensures same_room { SameRoom self.old self.new }
     {
         // By index: tried over the members, which lends the set while a place is written; the proof doesn't cover that.
         for i in 0..self.kept.count {
@@ -58,7 +60,8 @@ impl<'a> HeldSet<'a> {
     pub fn reach(&mut self, job: &Job, index: &ClaimIndex, table: &[u32], c: usize)
         requires ready { Ready job.now index.now table.now × (c < claims job.now) }
         requires keeps { Keeps (job_of job.now) table.now self.old.kept self.old.place.now self.old.members.now }
-        ensures { Keeps (job_of job.now) table.now self.new.kept self.new.place.now self.new.members.now × (self.new.kept.from ≡ Some c) }
+        ensures reached { Keeps (job_of job.now) table.now self.new.kept self.new.place.now self.new.members.now × (self.new.kept.from ≡ Some c) }
+        ensures same_room { SameRoom self.old self.new }
     {
         if self.kept.from == Some(c) {
             return;
@@ -92,7 +95,8 @@ impl<'a> HeldSet<'a> {
     pub fn extend(&mut self, job: &Job, index: &ClaimIndex, table: &[u32], c: usize, b: usize)
         requires ready { Ready job.now index.now table.now × (c < claims job.now) × (b < claims job.now) }
         requires lacking { Lacking (job_of job.now) table.now c b self.old.kept self.old.place.now self.old.members.now }
-        ensures { Keeps (job_of job.now) table.now self.new.kept self.new.place.now self.new.members.now }
+        ensures keeps { Keeps (job_of job.now) table.now self.new.kept self.new.place.now self.new.members.now }
+        ensures same_room { SameRoom self.old self.new }
     {
         if self.place[c] == 0 {
             return;

@@ -11,7 +11,7 @@ ghost use Rattle.table.specs.Questions.{Listed};
 ghost use Rattle.table.specs.Ranges.{InRange};
 ghost use Rattle.turn.specs.Turn.{turn};
 ghost use Rattle.turn.specs.Ready.{Ready};
-ghost use Rattle.turn.specs.KeptSet.{Keeps, Done};
+ghost use Rattle.turn.specs.KeptSet.{SameRoom, Keeps, Done};
 
 mod asking;
 mod failing;
@@ -56,12 +56,12 @@ pub struct Kept {
     pub chosen: Option<Chosen>,
 }
 
-// What is kept, with the room for its members and their places.
+// What is kept, with the room for its members and their places. A lifetime each: with one for both, a proof forgets what the arrays hold once the set is gone.
 #[derive(Drop)]
-pub struct HeldSet<'a> {
+pub struct HeldSet<'a, 'b> {
     pub kept: Kept,
     pub place: &'a mut [u16],
-    pub members: &'a mut [u16],
+    pub members: &'b mut [u16],
 }
 
 // The turn of worker w, which awaits this claim.
@@ -85,13 +85,14 @@ pub fn take_turn(
     asked: &QuestionIndex,
     table: &mut [u32],
     w: usize,
-    set: &mut HeldSet<'_>,
+    set: &mut HeldSet<'_, '_>,
 ) -> Kind
     requires ready { Ready job.now index.now table.old }
     requires listed { Listed (job_of job.now) asked.now }
     requires w_bound { w < workers_of job.now }
     requires keeps { Keeps (job_of job.now) table.old set.old.kept set.old.place.now set.old.members.now }
-    ensures { Done (job_of job.now) (turn (job_of job.now) table.old w) result set.new.kept table.new set.new.place.now set.new.members.now }
+    ensures done { Done (job_of job.now) (turn (job_of job.now) table.old w) result set.new.kept table.new set.new.place.now set.new.members.now }
+    ensures same_room { SameRoom set.old set.new }
 {
     let claims = job.claim_count();
     // a word of the table holds a claim + 1, or 0 for none

@@ -8,7 +8,7 @@ ghost use Rattle.table.specs.Layout.{cursor_word, cursor, fresh, owned};
 ghost use Rattle.table.specs.Newest.{with_newest};
 ghost use Rattle.turn.specs.Turn.{lits, clear, reached, mark_all, keeping, pass_turn};
 ghost use Rattle.turn.specs.Ready.{Ready};
-ghost use Rattle.turn.specs.KeptSet.{Keeps, Done};
+ghost use Rattle.turn.specs.KeptSet.{SameRoom, Keeps, Done};
 
 use crate::{HeldSet, Kind, failing, marks, owners};
 use job::{ClaimIndex, Cursor, Job, format};
@@ -19,7 +19,7 @@ fn next_claim(job: &Job, cursor: Cursor) -> usize
     requires { cursor.at < literals job.now }
     ensures { (result ≡ claim_of (literal_at job.now (rules job.now) cursor.at)) × (result < claims job.now) }
 {
-    format::claim_of(cursor.current(job))
+    format::claim_of(job.current(cursor))
 }
 
 // Claim c has passed as many literals as the cursor over them.
@@ -38,13 +38,14 @@ fn take_over(
     table: &mut [u32],
     w: usize,
     c: usize,
-    set: &mut HeldSet<'_>,
+    set: &mut HeldSet<'_, '_>,
 )
     requires ready { Ready job.now index.now table.old }
     requires within { (c < claims job.now) × (w < workers job.now) × (owned table.old w c ≡ true) }
     requires keeps { Keeps (job_of job.now) table.old set.old.kept set.old.place.now set.old.members.now }
     ensures taken { table.new ≡ with_newest (claims job.now) (workers job.now) (mark_all (λ (d : ℕ). w + 1) (keep (λ (d : ℕ). not (fresh table.old d)) (reached (job_of job.now) table.old c)) table.old) }
     ensures keeps { Keeps (job_of job.now) table.new set.new.kept set.new.place.now set.new.members.now }
+    ensures same_room { SameRoom set.old set.new }
 {
     set.reach(job, index, table, c);
     set.take(table, w);
@@ -59,14 +60,15 @@ fn pass_clear(
     table: &mut [u32],
     w: usize,
     c: usize,
-    set: &mut HeldSet<'_>,
+    set: &mut HeldSet<'_, '_>,
 ) -> Kind
     requires ready { Ready job.now index.now table.old }
     requires c_bound { (c < claims job.now) × (w < workers job.now) }
     requires c_value { (owned table.old w c ≡ true) × (cursor table.old c < length (lits (job_of job.now) c)) }
     requires c_value_2 { clear (job_of job.now) table.old c (cursor table.old c) ≡ true }
     requires keeps { Keeps (job_of job.now) table.old set.old.kept set.old.place.now set.old.members.now }
-    ensures { Done (job_of job.now) (keeping (job_of job.now) (pass_turn (job_of job.now) table.old w c)) result set.new.kept table.new set.new.place.now set.new.members.now }
+    ensures done { Done (job_of job.now) (keeping (job_of job.now) (pass_turn (job_of job.now) table.old w c)) result set.new.kept table.new set.new.place.now set.new.members.now }
+    ensures same_room { SameRoom set.old set.new }
 {
     let cursor = Cursor::over(index, c, words::cursor_at(table, c));
     let b = next_claim(job, cursor);
@@ -100,13 +102,14 @@ pub fn pass_turn(
     table: &mut [u32],
     w: usize,
     c: usize,
-    set: &mut HeldSet<'_>,
+    set: &mut HeldSet<'_, '_>,
 ) -> Kind
     requires ready { Ready job.now index.now table.old }
     requires c_bound { (c < claims job.now) × (w < workers job.now) }
     requires c_value { (owned table.old w c ≡ true) × (cursor table.old c < length (lits (job_of job.now) c)) }
     requires keeps { Keeps (job_of job.now) table.old set.old.kept set.old.place.now set.old.members.now }
-    ensures { Done (job_of job.now) (keeping (job_of job.now) (pass_turn (job_of job.now) table.old w c)) result set.new.kept table.new set.new.place.now set.new.members.now }
+    ensures done { Done (job_of job.now) (keeping (job_of job.now) (pass_turn (job_of job.now) table.old w c)) result set.new.kept table.new set.new.place.now set.new.members.now }
+    ensures same_room { SameRoom set.old set.new }
 {
     let passed = words::cursor_at(table, c);
     if failing::rule_failed(job, index, table, c, passed) {

@@ -45,7 +45,7 @@ fn newest_left(index: &ClaimIndex, table: &[u32], members: &[u16], w: usize) -> 
 }
 
 // The same, where the claim that was found last is it still: it is while it is w's and has a literal left.
-pub fn chosen(index: &ClaimIndex, table: &[u32], set: &HeldSet<'_>, w: usize) -> Option<usize>
+pub fn chosen(index: &ClaimIndex, table: &[u32], set: &HeldSet<'_, '_>, w: usize) -> Option<usize>
     requires { Places table.now set.now.members.now set.now.kept.count × (w < most_workers) × FoundBy index.now table.now set.now.kept set.now.members.now }
     ensures { NewestOf table.now (λ (d : ℕ). Member set.now.members.now set.now.kept.count d × T (free index.now table.now w d)) (word_of result) }
 {

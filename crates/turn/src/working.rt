@@ -7,7 +7,7 @@ ghost use Rattle.parts.specs.Written.{Lent};
 ghost use Rattle.table.specs.Newest.{sought};
 ghost use Rattle.turn.specs.Turn.{completed_mark, keeping, work_turn};
 ghost use Rattle.turn.specs.Ready.{Ready};
-ghost use Rattle.turn.specs.KeptSet.{Member, Marked, Keeps, Completes, Done};
+ghost use Rattle.turn.specs.KeptSet.{SameRoom, Member, Marked, Keeps, Completes, Done};
 
 use crate::{Chosen, HeldSet, Kind, marks, passing, remaining};
 use job::checks::MOST_CLAIMS;
@@ -34,7 +34,7 @@ fn complete_in(
 
 // Every member of the set becomes complete: its value is that of the model in which each claim complete before has its rules exchanged. The newest claim of
 // worker w, whose they were, is sought.
-fn complete(job: &Job, index: &ClaimIndex, table: &mut [u32], w: usize, set: &HeldSet<'_>)
+fn complete(job: &Job, index: &ClaimIndex, table: &mut [u32], w: usize, set: &HeldSet<'_, '_>)
     requires lent { Lent job.now index.now table.old set.now.place.now (take set.now.kept.count set.now.members.now) × Alone (job_of job.now) table.old set.now.place.now }
     requires fits { set.now.kept.count ≤ length set.now.members.now }
     requires w_bound { w < workers job.now }
@@ -60,12 +60,13 @@ pub fn work_turn(
     table: &mut [u32],
     w: usize,
     n: usize,
-    set: &mut HeldSet<'_>,
+    set: &mut HeldSet<'_, '_>,
 ) -> Kind
     requires ready { Ready job.now index.now table.old }
     requires n_bound { (n < claims job.now) × (w < workers job.now) × (n + 1 ≡ sought (claims job.now) table.old w) }
     requires keeps { Keeps (job_of job.now) table.old set.old.kept set.old.place.now set.old.members.now }
-    ensures { Done (job_of job.now) (keeping (job_of job.now) (work_turn (job_of job.now) table.old w n)) result set.new.kept table.new set.new.place.now set.new.members.now }
+    ensures done { Done (job_of job.now) (keeping (job_of job.now) (work_turn (job_of job.now) table.old w n)) result set.new.kept table.new set.new.place.now set.new.members.now }
+    ensures same_room { SameRoom set.old set.new }
 {
     if !remaining::passed_all(index, table, n) {
         return passing::pass_turn(job, index, table, w, n, set);

@@ -5,7 +5,6 @@
 --   put_none, put_put, put_size    the same, of what a function that writes ensures
 --   put_as                         the text by another name
 --   copy_start, _more, -whole      a text copied from the front: nothing yet; one byte more; all
---   wrote-mid                      a text copied over a part of the buffer, in one
 --   from_back                      a text known by the bytes before it and those from it on
 --   put-part, put_front            a text that was written, as a part of the buffer
 --   rest_all                       a slice from a place on
@@ -14,7 +13,6 @@ use mathlib.Core.Path.{◌≡◌, sym, ◌∙◌, ap, ap₂}
 use mathlib.Core.List.{List, [], ◌∷◌, ◌++◌, append_assoc}
 use native.Mathlib.Numerals.{add-one}
 use native.Mathlib.Omega.{arith}
-use borrow.Rule.Slice.PartMut.{put_mid, Post-is}
 use lib.ListN.{length, set, take, drop, get_or, length-append, length-drop, take-append-drop, get_or-append}
 use lib.Seq.{set_split, append_snoc, length-paste, paste, paste-zero, paste-suc, take-length, take_all, take_at, drop_at, take-take, drop-drop, get_or-append-add, length-take-le}
 use Rattle.writing.specs.Written.{wrote, Put, Wrote}
@@ -143,8 +141,3 @@ put_front {buf} {text} {out} {r} p =
 -- a slice from a place on
 pub rest_all : (s : List ℕ) (k : ℕ) → take (length s - k) (drop k s) ≡ drop k s
 rest_all s k = take_all (length s - k) (drop k s) (omega (arith, length-drop k s))
-
--- what a slice is once a text stands in the place of its part from `at` on
-pub wrote-mid : (buf ys text : List ℕ) (at : ℕ) → ys ≡ text → put_mid at (at + length text - at) buf ys ≡ wrote buf at text
-unfolding wrote
-wrote-mid buf ys text at e = rw e (sym (append_assoc (take at buf) text _) ∙ ap (λ (l : List ℕ). take at buf ++ text ++ l) (Post-is at (at + length text) buf (omega arith)))

@@ -14,7 +14,9 @@ pub fn put_bytes(buf: &mut [u8], at: usize, s: &[u8]) -> usize
     requires { at + length s.now ≤ length buf.old }
     ensures { Put buf.old at s.now buf.new result }
 {
-    let end = at + s.len();
-    buf[at..end].copy_from_slice(s);
-    end
+    // No copy_from_slice: for the few bytes of most texts a call of memmove costs more than the loop.
+    for (k, &b) in s.iter().enumerate() {
+        buf[at + k] = b;
+    }
+    at + s.len()
 }

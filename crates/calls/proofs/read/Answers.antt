@@ -17,7 +17,7 @@ pub of_accepted-accepted-requires : goal.of_accepted-accepted-requires
 of_accepted-accepted-requires c = well_formed _ c.in_ok-check_job.ensures.value
 
 pub read_accepted-requires : goal.read_accepted-requires
-read_accepted-requires c = (c.index_claims-index.ensures, c.count_questions-counts.ensures)
+read_accepted-requires c = (c.fill_index.ensures, c.count_questions-counts.ensures)
 
 pub returns : goal.returns
 unfolding read_check

@@ -18,7 +18,7 @@ pub of_accepted-accepted-requires : goal.of_accepted-accepted-requires
 of_accepted-accepted-requires c = well_formed _ c.in_ok-check_job.ensures.value
 
 pub run_accepted-requires : goal.run_accepted-requires
-run_accepted-requires c = (c.index_claims-index.ensures, c.count_questions-counts.ensures)
+run_accepted-requires c = (c.fill_index.ensures, c.count_questions-counts.ensures)
 
 pub returns : goal.returns
 unfolding run_check

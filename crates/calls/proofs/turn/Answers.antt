@@ -1,9 +1,8 @@
-use mathlib.Core.Path.{refl, sym, ◌∙◌, ap, subst}
+use mathlib.Core.Path.{refl, ◌∙◌, ap}
 use Prim.Native.Nat.{ℕ}
 use mathlib.Core.List.{List}
 use Rattle.job.proofs.Accepted.{well_formed}
 use Rattle.job.specs.Check.{Check}
-use Rattle.job.specs.Claims.{Index}
 use Rattle.job.specs.Format.{job_of}
 use Rattle.job.specs.Rows.{◌⨾◌}
 use Rattle.table.specs.Ranges.{check_table}
@@ -21,11 +20,8 @@ returns-in_err-check_job c = record {
 pub of_accepted-accepted-requires : goal.of_accepted-accepted-requires
 of_accepted-accepted-requires c = well_formed _ c.in_ok-check_job.ensures.value
 
-pub fill_index-requires-clause-accepted : goal.fill_index-requires-clause-accepted
-fill_index-requires-clause-accepted c = well_formed _ c.in_ok-check_job.ensures.value
-
 pub turn_accepted-requires : goal.turn_accepted-requires
-turn_accepted-requires c = (subst (λ (s : List ℕ). Index s c.fill_index.new.index) (sym c.of_accepted-accepted.ensures) c.fill_index.ensures, c.count_questions-counts.ensures)
+turn_accepted-requires c = (c.fill_index.ensures, c.count_questions-counts.ensures)
 
 pub returns : goal.returns
 unfolding turn_check

@@ -44,7 +44,7 @@ pub of_accepted-accepted-requires : goal.of_accepted-accepted-requires
 of_accepted-accepted-requires c = well_formed _ c.in_ok-check_job.ensures.value
 
 pub check_partners-requires : goal.check_partners-requires
-check_partners-requires c = record { indexed = c.index_claims-index.ensures; lengths = (list-long _ _ (list-row _ _ _ c.in_ok-check_length.ensures c.claim_count.ensures.value), list-long _ _ (list-row _ _ _ c.in_ok-check_length-2.ensures c.worker_count.ensures.value)) }
+check_partners-requires c = record { indexed = c.fill_index.ensures; lengths = (list-long _ _ (list-row _ _ _ c.in_ok-check_length.ensures c.claim_count.ensures.value), list-long _ _ (list-row _ _ _ c.in_ok-check_length-2.ensures c.worker_count.ensures.value)) }
 
 pub returns : goal.returns
 returns c =

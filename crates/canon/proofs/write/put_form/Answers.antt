@@ -1,4 +1,6 @@
 -- The parts one after the other.
+use mathlib.Core.Path.{refl}
+use native.Mathlib.Omega.{arith}
 use Rattle.canon.proofs.Handed.{bodies-sizes, bodies-held}
 use Rattle.canon.proofs.Formed.{records_fit, bodies_fit, asks_fit, formed}
 use Rattle.canon.proofs.write.put_form.Goals as goal
@@ -17,4 +19,5 @@ put_questions-requires c = let p = c.requires in asks_fit p.bodies.0 p.bodies.1 
 
 pub returns : goal.returns
 returns c = let p = c.requires in
-    formed p.bodies.0 p.bodies.1 p.room c.put_counts.ensures c.put_records.ensures c.put_bodies.ensures c.put_questions.ensures
+    let h = formed p.bodies.0 p.bodies.1 p.room c.put_counts.ensures c.put_records.ensures c.put_bodies.ensures c.put_questions.ensures in
+    record { same_buffer = refl; put = grind (arith, h.put, h.same_buffer) }

@@ -1,7 +1,7 @@
 use Prim.Native.Nat.{◌+◌, ◌<◌}
 use native.Mathlib.Omega.{arith}
 use Rattle.counters.specs.Positions.{keys, start_of}
-use Rattle.counters.proofs.Queues.{queue-top}
+use Rattle.counters.proofs.Queues.{same_room-none, same_room-by, queue-top}
 use Rattle.counters.proofs.Walking.{Owners, owners_at}
 use Rattle.counters.proofs.Sinking.{Fails, failing-start, failing_end, failing-next}
 use Rattle.counters.proofs.doubt.fall.Goals as goal
@@ -25,8 +25,11 @@ here : (c : After-rules_of-rule-items) → Owners c.args.tables.now.job.now c.ar
 here c = owners_at _ _ _ c.args.tables.now.placed _ (small (goal.at.After-rules_of-rule-items c).After-from-key) _ c.rules_of-rule-items.ensures
 
 pub loop-rule-init : goal.loop-rule-init
-loop-rule-init c = failing-start _ _ _ _ _ _ _ _ _ c.args.tables.now.accepted c.args.tables.now.placed c.requires.taken.1 c.requires.falling _ _ c.from-key.ensures
-    (omega arith)
+loop-rule-init c = (
+  failing-start _ _ _ _ _ _ _ _ _ c.args.tables.now.accepted c.args.tables.now.placed c.requires.taken.1 c.requires.falling _ _ c.from-key.ensures
+      (omega arith),
+  same_room-none _,
+)
 
 -- what rule's step comes next
 next :
@@ -35,11 +38,11 @@ next :
     c.from-key.result (start_of c.args.tables.now.job.now c.from-key.result + c.loop-rule.rule-index) c.from.result
 next c =
     let at = here (goal.at.After-from c).After-rules_of-rule-items in
-    failing-next _ _ _ _ _ _ _ _ _ c.args.tables.now.accepted c.args.tables.now.placed _ _ _ _ _ _ c.loop-rule.invariant (omega (arith, at.ends))
+    failing-next _ _ _ _ _ _ _ _ _ c.args.tables.now.accepted c.args.tables.now.placed _ _ _ _ _ _ c.loop-rule.invariant.0 (omega (arith, at.ends))
     _ (at.read _ _ c.loop-rule-test.true c.from.ensures)
 
 pub owe-requires-clause-rule : goal.owe-requires-clause-rule
-owe-requires-clause-rule c = let some = c.loop-rule.invariant.state.falling in
+owe-requires-clause-rule c = let some = c.loop-rule.invariant.0.state.falling in
     let n = next (goal.at.owe-requires-clause-rule c).After-from in
     (n.below, c.requires.taken.0, some.size, some.counts.long, n.few)
 
@@ -47,9 +50,9 @@ pub owe-requires-clause-room : goal.owe-requires-clause-room
 owe-requires-clause-room c = (next (goal.at.owe-requires-clause-room c).After-from).room
 
 pub loop-rule-preserved : goal.loop-rule-preserved
-loop-rule-preserved c = (next (goal.at.loop-rule-preserved c).After-from).step _ _ _ _ c.owe.ensures _ (omega arith)
+loop-rule-preserved c = ((next (goal.at.loop-rule-preserved c).After-from).step _ _ _ _ c.owe.ensures.owed _ (omega arith), same_room-by c.loop-rule.invariant.1 c.owe.ensures.same_room)
 
-pub returns : goal.returns
-returns c = let l = c.loop-rule in
-    let at = here (goal.at.returns c).After-rules_of-rule-items in
-    (l.invariant.inside, failing_end _ _ _ _ _ _ _ _ _ c.args.tables.now.accepted c.args.tables.now.placed _ _ _ _ _ _ l.invariant (omega (arith, at.ends)))
+pub returns-clause-sunk : goal.returns-clause-sunk
+returns-clause-sunk c = let l = c.loop-rule in
+    let at = here (goal.at.returns-clause-sunk c).After-rules_of-rule-items in
+    (l.invariant.0.inside, failing_end _ _ _ _ _ _ _ _ _ c.args.tables.now.accepted c.args.tables.now.placed _ _ _ _ _ _ l.invariant.0 (omega (arith, at.ends)))

@@ -3,4 +3,4 @@ use Rattle.counters.proofs.Standing.{Busy}
 use Rattle.counters.proofs.recover.standing.Given as goal
 
 abbrev pub invariant-loop-r : goal.invariant-loop-r
-invariant-loop-r l = Busy l.tables.job.now l.fail l.c l.r
+invariant-loop-r l = Busy l.job l.fail l.c l.r

@@ -2,11 +2,17 @@ use mathlib.Core.Path.{◌≡◌, refl, ◌∙◌, ap}
 use native.Mathlib.Omega.{arith}
 use borrow.Author.Count.{below_none, below_more}
 use Rattle.base.proofs.Compare.{under-yes, under-no, over_yes, over_no}
-use Rattle.job.proofs.Parts.{body_start-next}
+use Rattle.job.proofs.Parts.{body_start-next, body-within}
 use Rattle.job.proofs.Rows.{scan_none, scan_at, pass, stop, go, halt, placed}
 use Rattle.job.specs.Checks.{check_bodies}
 use Rattle.job.specs.Format.{rules, body_start}
 use Rattle.job.proofs.checks.check_bodies.Goals as goal
+
+pub returns-then-sum_of_lengths-literals : goal.returns-then-sum_of_lengths-literals
+unfolding check_bodies
+returns-then-sum_of_lengths-literals c = let s = c.args.job.now in
+    let whole = c.sum_of_lengths.ensures in
+    go _ _ refl (scan_none _ _ _ _ (λ k h. over_no _ _ (omega (arith, body-within s k (rules s) h)))) (pass _ _ _ _ (under-no _ _ (omega arith)) refl)
 
 pub loop-i-init : goal.loop-i-init
 unfolding body_start

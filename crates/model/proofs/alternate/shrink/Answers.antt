@@ -23,21 +23,22 @@ sink-requires-clause-falling c = risen-falling _ _ c.args.tables.now.accepted _ 
 pub regain-requires : goal.regain-requires
 regain-requires c = let risen = c.requires.risen.1 in
     record {
+      ends = c.requires.ends;
       room = risen.queue.long;
-      fell = (set_of _, fell-by _ _ c.args.tables.now.accepted _ _ _ _ _ risen _ _ (long (goal.at.regain-requires c).After-negate) c.negate.ensures.negations _ _ _ _ c.sink.ensures);
+      fell = (set_of _, fell-by _ _ c.args.tables.now.accepted _ _ _ _ _ risen _ _ (long (goal.at.regain-requires c).After-negate) c.negate.ensures.negations _ _ _ _ c.sink.ensures.sunk);
     }
 
 pub lose-requires : goal.lose-requires
-lose-requires c = let fell = fell-by _ _ c.args.tables.now.accepted _ _ _ _ _ c.requires.risen.1 _ _ (long (goal.at.lose-requires c).After-negate) c.negate.ensures.negations _ _ _ _ c.sink.ensures in
+lose-requires c = let fell = fell-by _ _ c.args.tables.now.accepted _ _ _ _ _ c.requires.risen.1 _ _ (long (goal.at.lose-requires c).After-negate) c.negate.ensures.negations _ _ _ _ c.sink.ensures.sunk in
     let both = lose-ready _ _ _ _ _ _ _ _ c.args.tables.now.accepted (c.regain.ensures.regained.upper _ fell) fell.doubted c.regain.ensures.room in
     record { doubted = both.0; no_negated = both.1 }
 
 pub returns-clause-shrunk : goal.returns-clause-shrunk
 returns-clause-shrunk c = λ a risen.
     let n = long (goal.at.returns-clause-shrunk c).After-negate in
-    let fell = fell-by _ _ c.args.tables.now.accepted _ _ _ _ _ risen _ _ n c.negate.ensures.negations _ _ _ _ c.sink.ensures in
-    let left = fell_left _ _ c.args.tables.now.accepted _ _ _ _ _ risen _ _ n c.negate.ensures.negations _ _ _ _ c.sink.ensures in
-    shrunk-by _ _ _ _ _ _ _ risen _ _ _ _ _ (c.regain.ensures.regained.upper _ fell) c.regain.ensures.regained.keeps left _ _ _ c.lose.ensures
+    let fell = fell-by _ _ c.args.tables.now.accepted _ _ _ _ _ risen _ _ n c.negate.ensures.negations _ _ _ _ c.sink.ensures.sunk in
+    let left = fell_left _ _ c.args.tables.now.accepted _ _ _ _ _ risen _ _ n c.negate.ensures.negations _ _ _ _ c.sink.ensures.sunk in
+    shrunk-by _ _ _ _ _ _ _ risen _ _ _ _ _ (c.regain.ensures.regained.upper _ fell) c.regain.ensures.regained.keeps left _ _ _ c.lose.ensures.lost
 
 pub returns-clause-room : goal.returns-clause-room
-returns-clause-room c = c.sink.ensures.falling.queue.long
+returns-clause-room c = c.sink.ensures.sunk.falling.queue.long

@@ -3,13 +3,14 @@ use mathlib.Core.Path.{refl, sym, ◌∙◌}
 use native.Mathlib.Omega.{arith}
 use lib.ListN.{drop_of_length-le}
 use Rattle.base.proofs.Zeros.{zeros_at}
+use Rattle.turn.proofs.Rooms.{same_room, room_on}
 use Rattle.calls.specs.Calls.{tally}
 use Rattle.calls.proofs.Running.{partly-start, partly_more, partly_end, named-next}
 use Rattle.recording.proofs.Noted.{noted_none, noted-room, noted_more, noted_all}
 use Rattle.recording.proofs.noting.record_in.Goals as goal
 
 pub loop-worker-init : goal.loop-worker-init
-loop-worker-init c = (partly-start _ _ _ _ c.requires.ready.0 c.requires.keeps refl (λ k. omega (arith, zeros_at 8 refl k)), noted_none _ _ _ _)
+loop-worker-init c = (partly-start _ _ _ _ _ c.requires.ready.0 c.requires.keeps refl (λ k. omega (arith, zeros_at 8 refl k)), noted_none _ _ _ _, same_room _)
 
 pub put_pair-requires : goal.put_pair-requires
 put_pair-requires c = let n = c.new-record.ensures in noted-room _ _ _ _ c.requires.fits n.bytes n.at c.loop-worker.invariant.1 c.loop-worker-test.true
@@ -20,9 +21,10 @@ loop-worker-preserved c = let p = c.requires in
     let some = c.loop-worker-test.true in
     let named = c.from-w.ensures in
     let n = c.new-record.ensures in
-    let t = c.take_turn-kind in (
-      partly_more _ l.invariant.0 p.ready.0.job (omega (arith, named, p.named l.worker-index some)) t.ensures (named-next _ some named) c.counted-next.ensures,
-      noted_more _ _ _ _ p.fits n.bytes n.at l.invariant.1 some named t.ensures.made c.put_pair.ensures,
+    let t = c.take_turn-kind.ensures in (
+      partly_more _ l.invariant.0 p.ready.0.job (omega (arith, named, p.named l.worker-index some)) t.done (named-next _ some named) c.counted-next.ensures t.same_room.members_long,
+      noted_more _ _ _ _ p.fits n.bytes n.at l.invariant.1 some named t.done.made c.put_pair.ensures,
+      room_on l.invariant.2 t.same_room,
     )
 
 pub returns-clause-value : goal.returns-clause-value
@@ -38,3 +40,6 @@ returns-clause-buffer_after c = let i = c.loop-worker.invariant.1 in
     let same = sym (i.same_buffer ∙ n.same_buffer) in
     let all = noted_all _ _ _ _ c.requires.fits n.bytes n.at i c.loop-worker-test.false in
     search rules
+
+pub returns-clause-same_room : goal.returns-clause-same_room
+returns-clause-same_room c = c.loop-worker.invariant.2

@@ -23,6 +23,6 @@ gather-count-requires c = let k = c.requires.keeps in
     let d = c.clear.ensures.room in
     let zeros = empty (goal.at.gather-count-requires c).After-clear in record { ready = c.requires.ready.0; claim_bound = (c.requires.ready.1, placed-no _ _ (zeros _)); gathered = none-gathered _ zeros k.gathered.few (d.0 ∙ k.gathered.long) (omega (arith, k.gathered.wide, ap length d.1)); leading = λ x y h l. absurd (none-there _ zeros x h) }
 
-pub returns : goal.returns
-returns c = let l = c.requires.ready.1 in
-    (gathered-keeps _ (job_ok _ c.requires.ready.0.job) _ _ (omega (arith, job-claims c.args.job.now)) (empty (goal.at.returns c).After-clear) c.gather-count.ensures, refl)
+pub returns-clause-reached : goal.returns-clause-reached
+returns-clause-reached c = let l = c.requires.ready.1 in
+    (gathered-keeps _ (job_ok _ c.requires.ready.0.job) _ _ (omega (arith, job-claims c.args.job.now)) (empty (goal.at.returns-clause-reached c).After-clear) c.gather-count.ensures, refl)

@@ -79,8 +79,8 @@ set_answered-requires c = let a = c.args in
     let z = longer a.table.now c.set_answer.new.table (answer_at c.claim_count-claims.result c.worker_count-workers.result a.k) c.value_of.result c.set_answer.ensures in
     omega (arith, sure ((goal.at.set_answered-requires c).After-question_at-question), p.in_range.1, m, z)
 
-pub returns-then-is_complete : goal.returns-then-is_complete
-returns-then-is_complete c = let a = c.args in
+pub returns-then-is_complete-clause-done : goal.returns-then-is_complete-clause-done
+returns-then-is_complete-clause-done c = let a = c.args in
     let s = a.job.now in
     let t = a.table.now in
     let p = c.requires in
@@ -89,7 +89,7 @@ returns-then-is_complete c = let a = c.args in
     let one = c.set_answer.ensures ∙ ap (set t (answer_at c.claim_count-claims.result c.worker_count-workers.result a.k)) v in
     record {
       made = made-from (c.set_answered.ensures ∙ ap (λ (x : List ℕ). set x (answered_at c.claim_count-claims.result a.w) (a.n + 1)) one)
-          (puts-answered s t a.w a.n a.k q c.mark_at-mark.result c.claim_count-claims.ensures.accepted p.in_range.2 p.in_range.1 p.n_value.0 p.n_value.1 p.n_value.2 (asked (goal.at.returns-then-is_complete c).After-question_at-question) c.mark_at-mark.ensures.value (complete-yes c.is_complete.ensures c.if-is_complete.true) c.claim_count-claims.ensures.value c.worker_count-workers.ensures.value);
+          (puts-answered s t a.w a.n a.k q c.mark_at-mark.result c.claim_count-claims.ensures.accepted p.in_range.2 p.in_range.1 p.n_value.0 p.n_value.1 p.n_value.2 (asked (goal.at.returns-then-is_complete-clause-done c).After-question_at-question) c.mark_at-mark.ensures.value (complete-yes c.is_complete.ensures c.if-is_complete.true) c.claim_count-claims.ensures.value c.worker_count-workers.ensures.value);
       keeps = answer_keeps _ (job_ok _ c.claim_count-claims.ensures.accepted) _ _ _ _ c.requires.keeps _ _ _ _ _ (c.claim_count-claims.ensures.value ∙ sym (sizes s).claims_are) (c.set_answered.ensures ∙ ap (λ (x : List ℕ). set x (answered_at c.claim_count-claims.result a.w) (a.n + 1)) one);
     }
 
@@ -99,12 +99,12 @@ open_newest-requires c = let a = c.args in
     let n = c.claim_count-claims.ensures.value in
     let r = sure (goal.at.open_newest-requires c).After-question_at-question in record { c_lt_claims = (omega (arith, r, n), omega (arith, r, n), omega (arith, r, n, p.in_range.1), omega (arith, r, p.in_range.1)); table_bound = (fresh_left a.job.now a.table.now c.claim_count-claims.ensures.accepted p.in_range.0 c.question_at-question.result.claim r.low (sym c.mark_at-mark.ensures.value ∙ c.if-mark-eq0.true), kept_low a.job.now a.table.now p.in_range.2 a.w p.in_range.1 n) }
 
-pub returns-then-mark-eq0 : goal.returns-then-mark-eq0
-returns-then-mark-eq0 c = let a = c.args in
+pub returns-then-mark-eq0-clause-done : goal.returns-then-mark-eq0-clause-done
+returns-then-mark-eq0-clause-done c = let a = c.args in
     let p = c.requires in
     record {
-      made = puts-opened a.job.now a.table.now a.w a.n a.k c.question_at-question.result c.mark_at-mark.result c.claim_count-claims.ensures.accepted p.in_range.2 p.in_range.1 p.n_value.0 p.n_value.1 p.n_value.2 (asked (goal.at.returns-then-mark-eq0 c).After-question_at-question) c.mark_at-mark.ensures.value c.if-mark-eq0.true p.in_range.0 c.claim_count-claims.ensures.value c.open_newest.ensures;
-      keeps = open_forgets _ (job_ok _ c.claim_count-claims.ensures.accepted) _ _ _ _ c.requires.keeps _ _ (omega (arith, (sizes a.job.now).claims_are, (sure (goal.at.returns-then-mark-eq0 c).After-question_at-question).low)) (sym c.mark_at-mark.ensures.value ∙ c.if-mark-eq0.true) ((p.in_range.0.claim _ (omega (arith, (sizes a.job.now).claims_are, (sure (goal.at.returns-then-mark-eq0 c).After-question_at-question).low))).unread (sym c.mark_at-mark.ensures.value ∙ c.if-mark-eq0.true)) (omega (arith, p.in_range.1, c.claim_count-claims.ensures.accepted.sized.workers_most)) (omega (arith, p.in_range.0.room)) _ (c.claim_count-claims.ensures.value ∙ sym (sizes a.job.now).claims_are) c.open_newest.ensures;
+      made = puts-opened a.job.now a.table.now a.w a.n a.k c.question_at-question.result c.mark_at-mark.result c.claim_count-claims.ensures.accepted p.in_range.2 p.in_range.1 p.n_value.0 p.n_value.1 p.n_value.2 (asked (goal.at.returns-then-mark-eq0-clause-done c).After-question_at-question) c.mark_at-mark.ensures.value c.if-mark-eq0.true p.in_range.0 c.claim_count-claims.ensures.value c.open_newest.ensures;
+      keeps = open_forgets _ (job_ok _ c.claim_count-claims.ensures.accepted) _ _ _ _ c.requires.keeps _ _ (omega (arith, (sizes a.job.now).claims_are, (sure (goal.at.returns-then-mark-eq0-clause-done c).After-question_at-question).low)) (sym c.mark_at-mark.ensures.value ∙ c.if-mark-eq0.true) ((p.in_range.0.claim _ (omega (arith, (sizes a.job.now).claims_are, (sure (goal.at.returns-then-mark-eq0-clause-done c).After-question_at-question).low))).unread (sym c.mark_at-mark.ensures.value ∙ c.if-mark-eq0.true)) (omega (arith, p.in_range.1, c.claim_count-claims.ensures.accepted.sized.workers_most)) (omega (arith, p.in_range.0.room)) _ (c.claim_count-claims.ensures.value ∙ sym (sizes a.job.now).claims_are) c.open_newest.ensures;
     }
 
 pub overflow_add-claim : goal.overflow_add-claim
@@ -113,11 +113,11 @@ overflow_add-claim c = omega (arith, sure ((goal.at.overflow_add-claim c).After-
 pub set_awaited-requires : goal.set_awaited-requires
 set_awaited-requires c = omega (arith, sure ((goal.at.set_awaited-requires c).After-question_at-question), c.requires.in_range.1, c.claim_count-claims.ensures.value)
 
-pub returns : goal.returns
-returns c = let a = c.args in
+pub returns-clause-done : goal.returns-clause-done
+returns-clause-done c = let a = c.args in
     let p = c.requires in
     record {
       made = made-from c.set_awaited.ensures
-          (puts-waits a.job.now a.table.now a.w a.n a.k c.question_at-question.result c.mark_at-mark.result c.claim_count-claims.ensures.accepted p.in_range.2 p.in_range.1 p.n_value.0 p.n_value.1 p.n_value.2 (asked (goal.at.returns c).After-question_at-question) c.mark_at-mark.ensures.value c.if-mark-eq0.false (complete-no c.is_complete.ensures c.if-is_complete.false) c.claim_count-claims.ensures.value);
+          (puts-waits a.job.now a.table.now a.w a.n a.k c.question_at-question.result c.mark_at-mark.result c.claim_count-claims.ensures.accepted p.in_range.2 p.in_range.1 p.n_value.0 p.n_value.1 p.n_value.2 (asked (goal.at.returns-clause-done c).After-question_at-question) c.mark_at-mark.ensures.value c.if-mark-eq0.false (complete-no c.is_complete.ensures c.if-is_complete.false) c.claim_count-claims.ensures.value);
       keeps = await-keeps _ (job_ok _ c.claim_count-claims.ensures.accepted) _ _ _ _ c.requires.keeps _ _ (c.claim_count-claims.ensures.value ∙ sym (sizes a.job.now).claims_are) c.set_awaited.ensures;
     }

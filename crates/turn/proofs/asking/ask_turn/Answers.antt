@@ -27,8 +27,8 @@ pub asked_count-requires : goal.asked_count-requires
 asked_count-requires c = let p = c.requires in
     let l = its c.args.job.now c.args.w p.in_range.1 in record { w_lt_most_workers = omega (arith, l, p.listed.few); w_bound = p.listed.rise c.args.w l }
 
-pub returns-then-asked_count-n : goal.returns-then-asked_count-n
-returns-then-asked_count-n c = let a = c.args in
+pub returns-then-asked_count-n-clause-done : goal.returns-then-asked_count-n-clause-done
+returns-then-asked_count-n-clause-done c = let a = c.args in
     let p = c.requires in
     let s = a.job.now in
     record {

@@ -66,10 +66,10 @@ pub move_to-requires : goal.move_to-requires
 move_to-requires c = let a = c.args in
     let p = c.requires in record { c_lt_most_claims = (omega (arith, p.c_bound.0, p.ready.job.sized.claims_most), omega (arith, room _ _ p.ready.table, p.c_bound.0)); c_bound = moved-low a.job.now a.index.now p.ready.job p.ready.indexed a.c p.c_bound.0 _ p.c_value.1 c.cursor_at.ensures.value c.over-cursor.ensures c.advanced.ensures }
 
-pub returns-then-is_complete : goal.returns-then-is_complete
-returns-then-is_complete c = let p = c.requires in
+pub returns-then-is_complete-clause-done : goal.returns-then-is_complete-clause-done
+returns-then-is_complete-clause-done c = let p = c.requires in
     let h = complete-yes c.is_complete.ensures c.if-is_complete.true in
-    record { made = pass-complete (facts (goal.at.returns-then-is_complete c).After-move_to) p.ready.newests h; keeps = passed-complete (facts (goal.at.returns-then-is_complete c).After-move_to) p.ready _ _ _ p.keeps h }
+    record { made = pass-complete (facts (goal.at.returns-then-is_complete-clause-done c).After-move_to) p.ready.newests h; keeps = passed-complete (facts (goal.at.returns-then-is_complete-clause-done c).After-move_to) p.ready _ _ _ p.keeps h }
 
 pub extend-requires : goal.extend-requires
 extend-requires c = let p = c.requires in
@@ -78,8 +78,8 @@ extend-requires c = let p = c.requires in
 pub overflow_add-w : goal.overflow_add-w
 overflow_add-w c = omega (arith, small (goal.at.overflow_add-w c).After-move_to)
 
-pub returns-then-mark-w : goal.returns-then-mark-w
-returns-then-mark-w c = record { made = pass-own (facts (goal.at.returns-then-mark-w c).After-move_to) c.requires.ready.newests (open-b (goal.at.returns-then-mark-w c).Else-is_complete) c.if-mark-w.true; keeps = c.extend.ensures }
+pub returns-then-mark-w-clause-done : goal.returns-then-mark-w-clause-done
+returns-then-mark-w-clause-done c = record { made = pass-own (facts (goal.at.returns-then-mark-w-clause-done c).After-move_to) c.requires.ready.newests (open-b (goal.at.returns-then-mark-w-clause-done c).Else-is_complete) c.if-mark-w.true; keeps = c.extend.ensures.keeps }
 
 pub open_newest-requires : goal.open_newest-requires
 open_newest-requires c = let a = c.requires.ready in
@@ -88,12 +88,12 @@ open_newest-requires c = let a = c.requires.ready in
     let r = room _ _ a.table in
     let q = a.job.sized in record { c_lt_claims = (omega (arith, n, g.low), omega (arith, n, q.claims_most), omega (arith, n, r, g.worker, moved_length g), omega (arith, q.workers_most, g.worker)); table_bound = (moved-opened g a.job a.table c.if-mark-eq0.true, kept_low _ _ (moved-kept g a.newests) _ g.worker n) }
 
-pub returns-then-mark-eq0 : goal.returns-then-mark-eq0
-returns-then-mark-eq0 c = let a = c.requires.ready in
+pub returns-then-mark-eq0-clause-done : goal.returns-then-mark-eq0-clause-done
+returns-then-mark-eq0-clause-done c = let a = c.requires.ready in
     let n = c.claim_count-claims.ensures.value in
     record {
-      made = pass-fresh (facts (goal.at.returns-then-mark-eq0 c).After-move_to) a.newests (open-b (goal.at.returns-then-mark-eq0 c).Else-is_complete) c.if-mark-w.false n c.if-mark-eq0.true a.job a.table c.open_newest.ensures;
-      keeps = passed-opens (facts (goal.at.returns-then-mark-eq0 c).After-move_to) a _ _ _ c.extend.ensures c.if-mark-eq0.true (small (goal.at.returns-then-mark-eq0 c).After-move_to) _ n c.open_newest.ensures;
+      made = pass-fresh (facts (goal.at.returns-then-mark-eq0-clause-done c).After-move_to) a.newests (open-b (goal.at.returns-then-mark-eq0-clause-done c).Else-is_complete) c.if-mark-w.false n c.if-mark-eq0.true a.job a.table c.open_newest.ensures;
+      keeps = passed-opens (facts (goal.at.returns-then-mark-eq0-clause-done c).After-move_to) a _ _ _ c.extend.ensures.keeps c.if-mark-eq0.true (small (goal.at.returns-then-mark-eq0-clause-done c).After-move_to) _ n c.open_newest.ensures;
     }
 
 pub meets_worker-requires : goal.meets_worker-requires
@@ -103,12 +103,12 @@ meets_worker-requires c = let a = c.requires.ready in
 
 pub take_over-requires : goal.take_over-requires
 take_over-requires c = let a = c.requires in
-    let g = facts (goal.at.take_over-requires c).After-move_to in record { ready = moved_ready g a.ready; within = (g.claim, g.worker, moved-own g); keeps = c.extend.ensures }
+    let g = facts (goal.at.take_over-requires c).After-move_to in record { ready = moved_ready g a.ready; within = (g.claim, g.worker, moved-own g); keeps = c.extend.ensures.keeps }
 
-pub returns-then-meets_worker : goal.returns-then-meets_worker
-returns-then-meets_worker c = let a = c.requires.ready in
+pub returns-then-meets_worker-clause-done : goal.returns-then-meets_worker-clause-done
+returns-then-meets_worker-clause-done c = let a = c.requires.ready in
     record {
-      made = pass-took (facts (goal.at.returns-then-meets_worker c).After-move_to) a.newests (open-b (goal.at.returns-then-meets_worker c).Else-is_complete) c.if-mark-w.false c.claim_count-claims.ensures.value c.if-mark-eq0.false c.meets_worker.ensures c.if-meets_worker.true c.take_over.ensures.taken;
+      made = pass-took (facts (goal.at.returns-then-meets_worker-clause-done c).After-move_to) a.newests (open-b (goal.at.returns-then-meets_worker-clause-done c).Else-is_complete) c.if-mark-w.false c.claim_count-claims.ensures.value c.if-mark-eq0.false c.meets_worker.ensures c.if-meets_worker.true c.take_over.ensures.taken;
       keeps = c.take_over.ensures.keeps;
     }
 
@@ -120,13 +120,13 @@ set_awaited-requires c = let a = c.requires.ready in
     let g = facts (goal.at.set_awaited-requires c).After-move_to in
     omega (arith, room _ _ a.table, a.job.sized.claims_most, g.low, g.worker, moved_length g, c.claim_count-claims.ensures.value)
 
-pub returns : goal.returns
-returns c = let s = c.args.job.now in
+pub returns-clause-done : goal.returns-clause-done
+returns-clause-done c = let s = c.args.job.now in
     let a = c.requires.ready in
     let n = c.claim_count-claims.ensures.value in
     record {
-      made = pass-waits (facts (goal.at.returns c).After-move_to) a.newests (open-b (goal.at.returns c).Else-is_complete) c.if-mark-w.false n c.if-mark-eq0.false c.meets_worker.ensures c.if-meets_worker.false c.set_awaited.ensures;
-      keeps = await-keeps _ (job_ok s a.job) _ _ _ _ c.extend.ensures _ _ (n ∙ sym (sizes s).claims_are) c.set_awaited.ensures;
+      made = pass-waits (facts (goal.at.returns-clause-done c).After-move_to) a.newests (open-b (goal.at.returns-clause-done c).Else-is_complete) c.if-mark-w.false n c.if-mark-eq0.false c.meets_worker.ensures c.if-meets_worker.false c.set_awaited.ensures;
+      keeps = await-keeps _ (job_ok s a.job) _ _ _ _ c.extend.ensures.keeps _ _ (n ∙ sym (sizes s).claims_are) c.set_awaited.ensures;
     }
 
 pub shape_of-table-then-mark-eq0 : goal.shape_of-table-then-mark-eq0

@@ -21,8 +21,8 @@ pub move_to-requires : goal.move_to-requires
 move_to-requires c = let a = c.args in
     let p = c.requires in record { c_lt_most_claims = (omega (arith, p.c_bound.0, p.ready.job.sized.claims_most), omega (arith, room _ _ p.ready.table, p.c_bound.0)); c_bound = skip-low a.job.now a.index.now a.table.now p.ready a.w a.c p.c_bound.0 p.c_value.1 c.cursor_at-passed.ensures.value c.rule_failed.ensures c.over-cursor.ensures c.past_rule.ensures }
 
-pub returns-then-rule_failed : goal.returns-then-rule_failed
-returns-then-rule_failed c = let a = c.args in
+pub returns-then-rule_failed-clause-done : goal.returns-then-rule_failed-clause-done
+returns-then-rule_failed-clause-done c = let a = c.args in
     let p = c.requires in
     let s = a.job.now in
     let i = a.index.now in

@@ -1,17 +1,15 @@
-use mathlib.Core.Path.{refl, sym, ◌∙◌}
+use mathlib.Core.Path.{sym, ◌∙◌}
 use native.Mathlib.Omega.{arith}
-use borrow.Author.Count.{below_none, below_more}
+use borrow.Author.Count.{below_more}
 use Rattle.base.proofs.Compare.{under-yes, under-no, not_below-yes, not_below-no}
 use Rattle.base.proofs.Bools.{or_no, or_first, or_second}
 use Rattle.job.proofs.Parts.{head_before-next}
 use Rattle.job.proofs.Rows.{scan_none, scan_at}
 use Rattle.job.specs.Checks.{check_heads}
-use Rattle.job.specs.Format.{head_before}
-use Rattle.job.proofs.checks.check_heads.Goals as goal
+use Rattle.job.proofs.checks.scan_heads.Goals as goal
 
 pub loop-i-init : goal.loop-i-init
-unfolding head_before
-loop-i-init c = (omega arith, refl, below_none _)
+loop-i-init c = (c.requires.right.0, c.head_before-before.ensures.value, c.requires.right.1)
 
 pub returns-then-claims-head : goal.returns-then-claims-head
 unfolding check_heads

@@ -1,16 +1,16 @@
 use mathlib.Core.Path.{◌∙◌}
 use native.Mathlib.Omega.{arith}
-use borrow.Author.Count.{below_none, below_more}
+use borrow.Author.Count.{below_more}
 use Rattle.base.proofs.Compare.{not_below-yes, not_below-no}
 use Rattle.base.proofs.Bools.{or_no, or_first, or_second}
 use Rattle.job.proofs.Rows.{scan_none, scan_at, placed}
 use Rattle.job.proofs.Parts.{Asked, asked_at}
 use Rattle.job.specs.Checks.{check_questions}
-use Rattle.job.proofs.checks.check_questions.Goals as goal
-use Rattle.job.proofs.checks.check_questions.Goals.{After-question_at-question}
+use Rattle.job.proofs.checks.scan_questions.Goals as goal
+use Rattle.job.proofs.checks.scan_questions.Goals.{After-question_at-question}
 
 pub loop-q-init : goal.loop-q-init
-loop-q-init c = (omega arith, below_none _)
+loop-q-init c = c.requires.right
 
 -- the question that was read, in the terms of the table
 asked : (c : After-question_at-question) → Asked c.args.job.now c.loop-q.q c.question_at-question.result
