@@ -3,7 +3,8 @@
 --   Partly          after some of the turns `all` from the table t₀ and the tally counts₀: `rest` are still to come, no count is above n
 --   partly-start    none is made yet
 --   partly-ready    what a turn asks for
---   partly_more     one more
+--   partly-next     one more, whatever room for members it leaves; partly-room   room that is as long
+--   partly_more     one more, in room that stays as long
 --   partly-place    the length of `place`
 --   partly_end      none is left
 --   named-next      the next turn of a schedule
@@ -57,6 +58,12 @@ module _ (s : List ℕ) where
           wide = refl;
         }
 
+  pub partly-room :
+      {t₀ counts₀ all members₁ : List ℕ} {n : ℕ} {rest t counts : List ℕ} {kept : Kept} {place members : List ℕ} → Partly s t₀ counts₀ all members₁ n rest t counts kept place members
+      → {members₀ : List ℕ} → length members ≡ length members₀ → Partly s t₀ counts₀ all members₀ n rest t counts kept place members
+  partly-room p long =
+      record { range = p.range; newests = p.newests; long = p.long; tables = p.tables; tallies = p.tallies; small = p.small; keeps = p.keeps; wide = long }
+
   module _ {t₀ counts₀ all members₀ : List ℕ} {n : ℕ} {rest t counts : List ℕ} {kept : Kept} {place members : List ℕ} (p : Partly s t₀ counts₀ all members₀ n rest t counts kept place members) where
     pub partly-ready : {index : List ℕ} → Ready s index t₀ → Ready s index t
     partly-ready r = record { job = r.job; indexed = r.indexed; table = p.range; newests = p.newests }
@@ -65,11 +72,11 @@ module _ (s : List ℕ) where
     partly-place e = p.keeps.gathered.long ∙ ((sizes s).claims_are ∙ sym e)
 
     module _ (good : WellFormed s) {w : ℕ} (low : w < workers s) {x : Kind} {k : Kept} {u place' members' : List ℕ} (done : Done (job_of s) (turn (job_of s) t w) x k u place' members') where
-      pub partly_more :
+      pub partly-next :
           {later : List ℕ} → rest ≡ w ∷ later → {next : List ℕ} → next ≡ set counts (kind_number x) (get_or counts (kind_number x) 0 + 1)
-          → length members' ≡ length members → Partly s t₀ counts₀ all members₀ (n + 1) later u next k place' members'
+          → Partly s t₀ counts₀ all members' (n + 1) later u next k place' members'
       unfolding run_table run_kinds counted job_of
-      partly_more {later} first {next} count same =
+      partly-next {later} first {next} count =
           let made = done.made in
           record {
             range = rw made.table_is (turn_in_range (job_ok s good) p.range low);
@@ -83,8 +90,13 @@ module _ (s : List ℕ) where
                 ∙ ap (λ (y : List ℕ). counted y (run_kinds (job_of s) u later)) (sym count)));
             small = λ k. rw count (omega (arith, one_more counts (kind_number x) k, p.small k));
             keeps = done.keeps;
-            wide = same ∙ p.wide;
+            wide = refl;
           }
+
+      pub partly_more :
+          {later : List ℕ} → rest ≡ w ∷ later → {next : List ℕ} → next ≡ set counts (kind_number x) (get_or counts (kind_number x) 0 + 1)
+          → length members' ≡ length members → Partly s t₀ counts₀ all members₀ (n + 1) later u next k place' members'
+      partly_more first count same = partly-room (partly-next first count) (same ∙ p.wide)
 
     pub partly_end : rest ≡ [] → (counts ≡ counted counts₀ (run_kinds (job_of s) t₀ all)) × (t ≡ run_table (job_of s) t₀ all)
     unfolding run_table run_kinds counted

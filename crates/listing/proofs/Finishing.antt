@@ -32,7 +32,7 @@ use Rattle.turn.specs.KeptSet.{Keeps, Done}
 use Rattle.calls.specs.Promise.{bound}
 use Rattle.turn.specs.declared.Kept.{Kept}
 use Rattle.turn.specs.declared.Kind.{Kind}
-use Rattle.calls.proofs.Running.{Partly, partly-start, partly_more, partly_end}
+use Rattle.calls.proofs.Running.{Partly, partly-start, partly-next, partly-room, partly_end}
 use Rattle.listing.specs.Finish.{answered_all, next_worker, finish_turns, most}
 
 abbrev pub done : Job → List ℕ → ℕ → Bool
@@ -130,20 +130,28 @@ module _ (s t₀ counts₀ members₀ : List ℕ) where
     pub going-stop : true ≡ answered_all (job_of s) t → (counts ≡ counted counts₀ (run_kinds (job_of s) t₀ (finishing s t₀))) × (t ≡ run_table (job_of s) t₀ (finishing s t₀))
     going-stop e = partly_end s p.part (turns-stop (job_of s) t left w e)
 
-    pub going_on :
+    pub going-next :
         WellFormed s → {rest : ℕ} → left ≡ rest + 1 → false ≡ answered_all (job_of s) t → {x : Kind} {k : Kept} {u place' members' : List ℕ} → Done (job_of s) (turn (job_of s) t w) x k u place' members'
-        → {next : List ℕ} → next ≡ set counts (kind_number x) (get_or counts (kind_number x) 0 + 1) → length members' ≡ length members
-        → {v : ℕ} → (v ≡ next_worker (job_of s) w) × (v < workers s) → Going s t₀ counts₀ members₀ rest v u next k place' members'
-    going_on good {rest} some more {x} {k} {u} done count same {v} after =
+        → {next : List ℕ} → next ≡ set counts (kind_number x) (get_or counts (kind_number x) 0 + 1)
+        → {v : ℕ} → (v ≡ next_worker (job_of s) w) × (v < workers s) → Going s t₀ counts₀ members' rest v u next k place' members'
+    going-next good {rest} some more {x} {k} {u} done count {v} after =
         let first : finish_turns left (job_of s) t w ≡ w ∷ finish_turns rest (job_of s) u v =
         turns_more (job_of s) t left rest w some more
         ∙ ap₂ (λ (y : List ℕ) (z : ℕ). w ∷ finish_turns rest (job_of s) y z) (sym done.made.table_is) (sym after.0) in
         record {
           most = p.most + 1;
-          part = partly_more s p.part good p.low done first count same;
+          part = partly-next s p.part good p.low done first count;
           few = omega (arith, p.few);
           low = after.1;
         }
+
+    pub going_on :
+        WellFormed s → {rest : ℕ} → left ≡ rest + 1 → false ≡ answered_all (job_of s) t → {x : Kind} {k : Kept} {u place' members' : List ℕ} → Done (job_of s) (turn (job_of s) t w) x k u place' members'
+        → {next : List ℕ} → next ≡ set counts (kind_number x) (get_or counts (kind_number x) 0 + 1) → length members' ≡ length members
+        → {v : ℕ} → (v ≡ next_worker (job_of s) w) × (v < workers s) → Going s t₀ counts₀ members₀ rest v u next k place' members'
+    going_on good some more done count same after =
+        let g = going-next good some more done count after in
+        record { most = g.most; part = partly-room s g.part (same ∙ p.part.wide); few = g.few; low = g.low }
 
 -- the count of turns, from the counts that were read
 module _ (s : List ℕ) (good : WellFormed s) {l a q w : ℕ} (is_l : l ≡ literals s) (is_a : a ≡ claims s) (is_q : q ≡ questions s) (is_w : w ≡ workers s) where

@@ -1,6 +1,7 @@
 -- The pairs of a record, one by one. Assumes nothing.
 --   Following           i pairs of r hold; t is the table after their turns from t₀, counts their tally
---   following-start, -more, -past, -other, -all   nothing yet; a pair that holds; a worker past the last; another kind; all
+--   following-start, -next, -more, -past, -other, -all   nothing yet; a pair that holds, with whatever room for members; the same in room that
+--                       stays as long; a worker past the last; another kind; all
 use Prim.Native.Nat.{ℕ, suc, ◌+◌, ◌*◌, ◌≤◌, ◌<◌}
 use mathlib.Core.Path.{◌≡◌, refl, sym, ◌∙◌, ap}
 use mathlib.Core.Bool.{false}
@@ -18,7 +19,7 @@ use Rattle.turn.specs.declared.Kept.{Kept}
 use Rattle.turn.specs.declared.Kind.{Kind}
 use Rattle.turn.proofs.Jobs.{job_ok}
 use Rattle.calls.specs.Calls.{tally}
-use Rattle.calls.proofs.Running.{Partly, partly-start, partly_more, partly_end, named-next}
+use Rattle.calls.proofs.Running.{Partly, partly-start, partly-next, partly-room, partly_end, named-next}
 use Rattle.records.specs.Record.{pairs, workers_in, gives, held}
 use Rattle.records.proofs.Pairs.{workers-length, workers_at, pair_at, gives-yes, gives-past, gives_other, held_more, held_none, held-few}
 use Rattle.records.proofs.Restarted.{start-turn}
@@ -71,20 +72,27 @@ module _ (s t₀ r members₀ : List ℕ) where
             again = restart;
           }
 
-      pub following-more :
+      pub following-next :
           kind_number x ≡ get_or r (2 * i + 1) 0 → {next : List ℕ} → next ≡ set counts (kind_number x) (get_or counts (kind_number x) 0 + 1)
-          → length members' ≡ length members → Following s t₀ r members₀ (i + 1) u next k place' members'
+          → Following s t₀ r members' (i + 1) u next k place' members'
       unfolding job_of
-      following-more is count same =
+      following-next is count =
           let g = gives-yes (job_of s) t (get_or r (2 * i) 0) (get_or r (2 * i + 1) 0) (omega (arith, named)) (sym is ∙ kind-is) in
           let next-held : held (job_of s) t (drop (2 * i) r) ≡ suc (held (job_of s) u (drop (2 * (i + 1)) r)) =
           here ∙ (held_more (job_of s) t _ _ _ g ∙ ap (λ (y : List ℕ). suc (held (job_of s) y (drop (2 * (i + 1)) r))) (ap (λ (v : ℕ). (turn (job_of s) t v).table) (sym named) ∙ sym done.made.table_is)) in
           record {
-            part = partly_more s f.part good low done (named-next (workers_in r) (omega (arith, workers-length r)) (named ∙ sym (workers_at r i some))) count same;
+            part = partly-next s f.part good low done (named-next (workers_in r) (omega (arith, workers-length r)) (named ∙ sym (workers_at r i some))) count;
             within = omega arith;
             holding = omega (arith, f.holding, next-held);
             again = restart;
           }
+
+      pub following-more :
+          kind_number x ≡ get_or r (2 * i + 1) 0 → {next : List ℕ} → next ≡ set counts (kind_number x) (get_or counts (kind_number x) 0 + 1)
+          → length members' ≡ length members → Following s t₀ r members₀ (i + 1) u next k place' members'
+      following-more is count same =
+          let g = following-next is count in
+          record { part = partly-room s g.part (same ∙ f.part.wide); within = g.within; holding = g.holding; again = g.again }
 
   pub following-all :
       {i : ℕ} {t counts : List ℕ} {kept : Kept} {place members : List ℕ} → Following s t₀ r members₀ i t counts kept place members → {n : ℕ} → n ≡ pairs r → n ≤ i
